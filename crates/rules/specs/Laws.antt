@@ -1,0 +1,149 @@
+-- What holds in every state that events lead to from a fresh unit, and other laws of the rules, as statements. Their proofs stand in proofs/ under the same names.
+use Prim.Native.Nat.{ℕ, _+_, _-_, _*_, _/_, _≤_, _<_, min}
+use mathlib.Core.Path.{_≡_}
+use mathlib.Core.Logic.{_⊎_}
+use mathlib.Core.Bool.{Bool, true, false}
+use mathlib.Core.List.{List, [], _∷_}
+use lib.IntN.{ℤ, pos, natAbs, _+ℤ_, _*ℤ_}
+use lib.Signed.{_≤ℤ_}
+use lib.ListN.{length}
+use Rattle.rules.specs.Words.{isInput, isTracked}
+use Rattle.rules.specs.Events.{Event, sampleLimit}
+use Rattle.rules.specs.Monitors.{Bucket, bucketOf, Input, fullSoak, alarmTicks}
+use Rattle.rules.specs.Pll.{modeNumber, holdover, Loop, lockTicks, unlockTicks}
+use Rattle.rules.specs.Settings.{Settings, reject, qualification, usable, ahead, delayTicks}
+use Rattle.rules.specs.Selection.{Inputs, input, Choice, available, candidate, best, waitLimit}
+use Rattle.rules.specs.History.{History, blockSamples, keptBlocks, readyBlocks, ready, sumLimit, saturated, sumOf, value}
+use Rattle.rules.specs.State.{State, selected, mode}
+use Rattle.rules.specs.Tick.{holdingLimit}
+use Rattle.rules.specs.Registers.{largest, fresh}
+use Rattle.rules.specs.Reading.{Answer, read}
+use Rattle.rules.specs.Refusals.{accepted}
+use Rattle.rules.specs.Run.{next, run}
+
+-- ---- invariants
+
+-- one input, with its bucket: level at most 8, decay count at most 1, remainder at most 782, soak at most 79
+pub record SoundInput (b : Bucket) (i : Input) : Type 0 where
+  pub level-le : i .activity .level ≤ b .size
+  pub decay-lt : i .activity .decay < b .decayTicks
+  pub remainder-le : i .remainder ≤ alarmTicks
+  pub soak-le : i .soak ≤ fullSoak
+
+pub record SoundInputs (inputs : Inputs) : Type 0 where
+  pub eight : length inputs ≡ 8
+  pub each : (i : ℕ) → isInput i ≡ true → SoundInput (bucketOf i) (input inputs i)
+
+-- each setting at most its Largest, reject − qualification at least 6
+pub record SoundSettings (set : Settings) : Type 0 where
+  pub largest-le : (a : ℕ) → set a ≤ largest a
+  pub apart : qualification set + 6 ≤ reject set
+
+-- lock run at most 16, unlock run at most 781; selected at most 9; the wait within the longest delay, 119,532 ticks, and 0 while nothing is selected;
+-- a selected reference has one of the four tracking states (2 to 5), and nothing else has
+pub record SoundLoop (p : Loop) (c : Choice) : Type 0 where
+  pub lock-le : p .lockRun ≤ lockTicks
+  pub unlock-lt : p .unlockRun < unlockTicks
+  pub selected-le : c .selected ≤ 9
+  pub wait-lt : c .wait < waitLimit
+  pub unselected : c .selected ≡ 0 → c .wait ≡ 0
+  pub unwaited : c .wait ≡ 0 → c .waitFor ≡ 0
+  pub tracking : isTracked (c .selected) ≡ true → 2 ≤ modeNumber (p .mode)
+  pub resting : isTracked (c .selected) ≡ false → modeNumber (p .mode) ≤ 1
+
+-- each sum within ±16,000,000,000
+abbrev pub Within : List ℤ → Type 0
+Within [] = Unit {0}
+Within (z ∷ zs) = (natAbs z ≤ sumLimit) × Within zs
+
+-- at most 64 kept sums and 127 open samples, no sum past what its samples can have; the backup is none or 43 blocks and more
+pub record SoundHistory (h : History) : Type 0 where
+  pub kept-le : length (h .kept) ≤ keptBlocks
+  pub kept-within : Within (h .kept)
+  pub open-lt : h .openCount < blockSamples
+  pub open-within : natAbs (h .openSum) ≤ sampleLimit * h .openCount
+  pub command-le : h .command ≤ 3
+  pub backup-le : length (h .backup) ≤ keptBlocks
+  pub backup-within : Within (h .backup)
+  pub backup-full : (h .backup ≡ []) ⊎ (readyBlocks ≤ length (h .backup))
+
+pub record Lawful (s : State) : Type 0 where
+  pub inputs : SoundInputs (s .inputs)
+  pub settings : SoundSettings (s .settings)
+  pub loop : SoundLoop (s .loop) (s .choice)
+  pub history : SoundHistory (s .history)
+  -- a selected reference is the one that the history counts as selected last
+  pub last : isTracked (selected s) ≡ true → s .history .last ≡ selected s
+  -- ticks are counted in Holdover alone
+  pub holding-le : s .holding ≤ holdingLimit
+  pub holding-none : (modeNumber (mode s) ≡ modeNumber holdover → ⊥) → s .holding ≡ 0
+
+abbrev pub Invariants : Type 0
+Invariants = (es : List Event) → Lawful (run fresh es)
+
+-- ---- a bound that stands in a rule and not in document 01 never changes anything, from fresh
+
+pub record Unsaturated (s : State) : Type 0 where
+  pub unlockRun : min unlockTicks (s .loop .unlockRun + 1) ≡ s .loop .unlockRun + 1
+  pub wait : min waitLimit (s .choice .wait + 1) ≡ s .choice .wait + 1
+  pub openSum : (x : ℤ) → natAbs x ≤ sampleLimit → saturated (s .history .openSum +ℤ x) ≡ s .history .openSum +ℤ x
+
+abbrev pub Saturation : Type 0
+Saturation = (es : List Event) → Unsaturated (run fresh es)
+
+-- The count of ticks in Holdover stops at 255 hours: what it holds after n ticks shows the hours that n shows, and one tick more keeps that so.
+pub record HoursCount : Type 0 where
+  pub shows : (n : ℕ) → min 255 (min holdingLimit n / 28_125) ≡ min 255 (n / 28_125)
+  pub steps : (n : ℕ) → min holdingLimit (min holdingLimit n + 1) ≡ min holdingLimit (n + 1)
+
+-- ---- selection
+
+-- n is the least whole number with 4 n at least 1,875 times the delay in minutes
+pub record LeastDelay (minutes n : ℕ) : Type 0 where
+  pub enough : 1875 * minutes ≤ 4 * n
+  pub least : (m : ℕ) → 1875 * minutes ≤ 4 * m → n ≤ m
+
+abbrev pub Delays : Type 0
+Delays = (minutes : ℕ) → LeastDelay minutes (delayTicks minutes)
+
+-- no candidate and 0, or a candidate that is ahead of every other
+abbrev pub BestOf : Settings → Inputs → ℕ → Type 0
+BestOf set inputs b =
+    ((b ≡ 0) × ((c : ℕ) → candidate set inputs c ≡ false))
+    ⊎ ((candidate set inputs b ≡ true) × ((c : ℕ) → candidate set inputs c ≡ true → (c ≡ b) ⊎ (ahead set b c ≡ true)))
+
+abbrev pub BestCandidate : Type 0
+BestCandidate = (set : Settings) (inputs : Inputs) → BestOf set inputs (best set inputs)
+
+-- a candidate that is a reference is available: none is taken unjudged or masked
+abbrev pub Judged : Type 0
+Judged = (set : Settings) (inputs : Inputs) (c : ℕ) → isInput c ≡ true → candidate set inputs c ≡ true → available set inputs c ≡ true
+
+-- ---- the value
+
+-- v is the greatest whole number not above t / d
+pub record Floor (t : ℤ) (d : ℕ) (v : ℤ) : Type 0 where
+  pub notAbove : (pos d *ℤ v) ≤ℤ t
+  pub greatest : (z : ℤ) → (pos d *ℤ z) ≤ℤ t → z ≤ℤ v
+
+-- of the mean of the kept samples, of which there are 128 in a block
+abbrev pub Value : Type 0
+Value = (h : History) → 1 ≤ length (h .kept) → Floor (sumOf (h .kept)) (blockSamples * length (h .kept)) (value h)
+
+-- and no greater in magnitude than a sample, so that 32 bits hold it
+abbrev pub ValueRange : Type 0
+ValueRange = (h : History) → 1 ≤ length (h .kept) → Within (h .kept) → natAbs (value h) ≤ sampleLimit
+
+-- a fresh unit is not Ready
+abbrev pub NotReady : Type 0
+NotReady = ready (fresh .history) ≡ false
+
+-- ---- events and registers
+
+-- "state unchanged": a refused event changes nothing
+abbrev pub Refused : Type 0
+Refused = (s : State) (e : Event) → accepted s e ≡ false → next s e ≡ s
+
+-- each register is a byte
+abbrev pub Bytes : Type 0
+Bytes = (es : List Event) (a : ℕ) → read (run fresh es) a .byte < 256

@@ -1,0 +1,82 @@
+-- Document 01, "Registers": what a read shows, at every address.
+use Prim.Native.Nat.{ℕ, zero, suc, _+_, _-_, _*_, _^_, _/_, _%_, min}
+use mathlib.Core.Bool.{Bool, true, false, not, _||_}
+use lib.Dec.{eqb}
+use lib.IntN.{ℤ, pos, negsuc}
+use Rattle.rules.specs.Words.{if_then_else_}
+use Rattle.rules.specs.Monitors.{qualified}
+use Rattle.rules.specs.Pll.{modeNumber, freeRun, holdover, locked, is}
+use Rattle.rules.specs.Selection.{input, available}
+use Rattle.rules.specs.History.{held, value}
+use Rattle.rules.specs.State.{State, selected, mode, Ready}
+use Rattle.rules.specs.Registers.{inMap, readOnly}
+
+-- the mask of the inputs 1 to k that pass a test: "in every mask bit i−1 is input i"
+unfoldable pub maskUpTo : (ℕ → Bool) → ℕ → ℕ
+maskUpTo test zero = 0
+maskUpTo test (suc k) = (if test (suc k) then 2 ^ k else 0) + maskUpTo test k
+
+-- how many of the inputs 1 to k pass a test
+unfoldable pub countUpTo : (ℕ → Bool) → ℕ → ℕ
+countUpTo test zero = 0
+countUpTo test (suc k) = (if test (suc k) then 1 else 0) + countUpTo test k
+
+-- 0x46, 0x47: "Masks 0x46 and 0x47 follow soak and mask at the moment of reading."
+unfoldable pub qualifiedMask : State → ℕ
+qualifiedMask s = maskUpTo (λ i. qualified (input (s .inputs) i)) 8
+
+unfoldable pub availableMask : State → ℕ
+availableMask s = maskUpTo (available (s .settings) (s .inputs)) 8
+
+-- 0x4e: "how many references are available"
+unfoldable pub availableCount : State → ℕ
+availableCount s = countUpTo (available (s .settings) (s .inputs)) 8
+
+-- 0x27: "whole hours (28,125 ticks) in Holdover after the entering event, at most 255, else 0"
+unfoldable pub hours : State → ℕ
+hours s = if is holdover (mode s) then min 255 (s .holding / 28_125) else 0
+
+-- 0x48: "16 times state .. + selected"; selected has four bits, and from fresh is at most 9
+unfoldable pub stateByte : State → ℕ
+stateByte s = 16 * modeNumber (mode s) + selected s % 16
+
+-- 0x49: "bit 0 alarm (Holdover or Free Run), bit 1 not Locked, bit 2 Ready, bit 3 backup held"
+unfoldable pub statusByte : State → ℕ
+statusByte s =
+    (if is holdover (mode s) || is freeRun (mode s) then 1 else 0) + (if is locked (mode s) then 0 else 2) + (if Ready s then 4 else 0)
+    + (if held (s .history .backup) then 8 else 0)
+
+-- two's complement in 32 bits
+unfoldable pub twos : ℤ → ℕ
+twos (pos n) = n % 2 ^ 32
+twos (negsuc n) = 2 ^ 32 - 1 - n % 2 ^ 32
+
+-- 0x4a to 0x4d: "value, low byte first, two's complement; 0 unless Ready"
+unfoldable pub valueByte : State → ℕ → ℕ
+valueByte s k = if Ready s then twos (value (s .history)) / 256 ^ k % 256 else 0
+
+-- a register that is read only
+unfoldable pub shown : State → ℕ → ℕ
+shown s a =
+    if eqb a 0x27 then hours s
+    else (if eqb a 0x46 then qualifiedMask s
+    else (if eqb a 0x47 then availableMask s
+    else (if eqb a 0x48 then stateByte s
+    else (if eqb a 0x49 then statusByte s
+    else (if eqb a 0x4a then valueByte s 0
+    else (if eqb a 0x4b then valueByte s 1
+    else (if eqb a 0x4c then valueByte s 2
+    else (if eqb a 0x4d then valueByte s 3
+    else availableCount s))))))))
+
+-- a register of the map; 0x26 "reads the last accepted" command
+unfoldable pub content : State → ℕ → ℕ
+content s a = if readOnly a then shown s a else (if eqb a 0x26 then s .history .command else s .settings a)
+
+-- "address not in the map (a read gives 1 and byte 0)"
+pub record Answer : Type 0 where
+  pub refusal : ℕ
+  pub byte : ℕ
+
+unfoldable pub read : State → ℕ → Answer
+read s a = if inMap a then record { refusal = 0; byte = content s a } else record { refusal = 1; byte = 0 }

@@ -1,0 +1,43 @@
+-- Document 01, "Turned down", numbers 1 to 8: what an event is turned down with. "Checked in number order."
+use Prim.Native.Nat.{ℕ, _+_}
+use mathlib.Core.Bool.{Bool, not, _&&_, _||_}
+use lib.Dec.{leb, ltb, eqb}
+use lib.IntN.{natAbs}
+use Rattle.rules.specs.Words.{if_then_else_, isInput, isTracked}
+use Rattle.rules.specs.Events.{Event, tick, measurement, hit, write, sampleLimit}
+use Rattle.rules.specs.Settings.{Settings, reject, qualification}
+use Rattle.rules.specs.History.{held}
+use Rattle.rules.specs.State.{State, selected, Ready}
+use Rattle.rules.specs.Registers.{inMap, readOnly, largest, written}
+
+-- 4: "reject − qualification would be under 6"; it concerns the writes of the two limits
+unfoldable pub limitsApart : Settings → Bool
+limitsApart set = leb (qualification set + 6) (reject set)
+
+unfoldable pub limitsRefused : State → ℕ → ℕ → Bool
+limitsRefused s a v = (eqb a 0x44 || eqb a 0x45) && not (limitsApart (written a v (s .settings)))
+
+-- 8: "command 1 unless Ready, command 2 without backup"
+unfoldable pub commandRefused : State → ℕ → Bool
+commandRefused s v = (eqb v 1 && not (Ready s)) || (eqb v 2 && not (held (s .history .backup)))
+
+-- 1: "address not in the map"; 2: "write to R"; 3: "value above Largest"
+unfoldable pub writeRefusal : State → ℕ → ℕ → ℕ
+writeRefusal s a v =
+    if not (inMap a) then 1
+    else (if readOnly a then 2
+    else (if ltb (largest a) v then 3
+    else (if limitsRefused s a v then 4
+    else (if eqb a 0x26 && commandRefused s v then 8
+    else 0))))
+
+-- 5: "Hit with no reference 1 to 8 selected"; 6: "input not 1 to 8"; 7: "sample out of range"; 0 where the event is accepted
+unfoldable pub refusal : State → Event → ℕ
+refusal s (tick mask lock x) = if leb (natAbs x) sampleLimit then 0 else 7
+refusal s (measurement i offset) = if isInput i then 0 else 6
+refusal s hit = if isTracked (selected s) then 0 else 5
+refusal s (write a v) = writeRefusal s a v
+
+-- "An accepted event is one not turned down."
+abbrev pub accepted : State → Event → Bool
+accepted s e = eqb (refusal s e) 0

@@ -1,0 +1,76 @@
+-- What each event leaves, and a list of events from a fresh unit.
+use Prim.Native.Nat.{ℕ}
+use mathlib.Core.Bool.{Bool}
+use mathlib.Core.List.{List, [], _∷_}
+use lib.Dec.{eqb}
+use lib.IntN.{ℤ}
+use Rattle.rules.specs.Words.{if_then_else_}
+use Rattle.rules.specs.Events.{Event, tick, measurement, hit, write}
+use Rattle.rules.specs.Monitors.{measured, unsoaked}
+use Rattle.rules.specs.Settings.{reject, qualification}
+use Rattle.rules.specs.Selection.{altered, settled, unselectedMode}
+use Rattle.rules.specs.History.{openEmptied, commanded}
+use Rattle.rules.specs.State.{State, selected, Ready}
+use Rattle.rules.specs.Tick.{ticked}
+use Rattle.rules.specs.Registers.{written, fresh}
+use Rattle.rules.specs.Refusals.{refusal, accepted}
+
+-- a measurement, on one input
+unfoldable pub afterMeasurement : ℕ → ℤ → State → State
+afterMeasurement i offset s =
+    record {
+      inputs = altered (measured (reject (s .settings)) (qualification (s .settings)) offset) i (s .inputs);
+      settings = s .settings;
+      loop = s .loop;
+      choice = s .choice;
+      history = s .history;
+      holding = s .holding;
+    }
+
+-- "Hit: the selected reference's soak becomes 0, selected 0, wait and runs 0, the open block empties, state Holdover or Free Run by Ready."
+unfoldable pub afterHit : State → State
+afterHit s =
+    record {
+      inputs = altered unsoaked (selected s) (s .inputs);
+      settings = s .settings;
+      loop = record { mode = unselectedMode (Ready s); lockRun = 0; unlockRun = 0 };
+      choice = settled 0;
+      history = openEmptied (s .history);
+      holding = 0;
+    }
+
+-- A write of 0x26 is a command to the history; any other is a setting. "Commands do not change the state before the next tick."
+unfoldable pub afterWrite : ℕ → ℕ → State → State
+afterWrite a v s =
+    record {
+      inputs = s .inputs;
+      settings = if eqb a 0x26 then s .settings else written a v (s .settings);
+      loop = s .loop;
+      choice = s .choice;
+      history = if eqb a 0x26 then commanded v (s .history) else s .history;
+      holding = s .holding;
+    }
+
+-- what an accepted event leaves
+unfoldable pub effect : State → Event → State
+effect s (tick mask lock x) = ticked mask lock x s
+effect s (measurement i offset) = afterMeasurement i offset s
+effect s hit = afterHit s
+effect s (write a v) = afterWrite a v s
+
+-- what any event leaves: one that is turned down leaves the state "as before"
+unfoldable pub next : State → Event → State
+next s e = if accepted s e then effect s e else s
+
+-- an event's number, 0 if it is accepted, and the state that it leaves
+pub record Outcome : Type 0 where
+  pub refusal : ℕ
+  pub state : State
+
+unfoldable pub outcome : State → Event → Outcome
+outcome s e = record { refusal = refusal s e; state = next s e }
+
+-- a list of events: "each event gets the state that the one before it left"
+unfoldable pub run : State → List Event → State
+run s [] = s
+run s (e ∷ es) = run (next s e) es

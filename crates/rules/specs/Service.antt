@@ -1,0 +1,123 @@
+-- Document 01, "Demand 3": the promise of service, one claim about whole histories from a fresh unit.
+use Prim.Native.Nat.{ℕ, _+_, _*_, _-_, _≤_, _<_, max}
+use mathlib.Core.Path.{_≡_}
+use mathlib.Core.Logic.{_⊎_}
+use mathlib.Core.Bool.{Bool, true, false, _&&_}
+use mathlib.Core.List.{List, [], _∷_, _++_}
+use lib.IntN.{natAbs}
+use Rattle.rules.specs.Words.{if_then_else_, bit, bitOf}
+use Rattle.rules.specs.Events.{Event, tick, measurement, hit, write}
+use Rattle.rules.specs.Monitors.{Bucket, bucketOf, fullSoak, alarmTicks}
+use Rattle.rules.specs.Pll.{lockTicks}
+use Rattle.rules.specs.Settings.{Settings, priority, revertive, qualification, reversion}
+use Rattle.rules.specs.Selection.{input}
+use Rattle.rules.specs.History.{blockSamples, readyBlocks}
+use Rattle.rules.specs.State.{State, selected, Ready}
+use Rattle.rules.specs.Registers.{fresh}
+use Rattle.rules.specs.Refusals.{accepted}
+use Rattle.rules.specs.Run.{next, run}
+
+-- ---- the settings
+
+-- "Automatic control: 0x40 is 1. Unmasked: the input's bit in 0x42 is set. Revertive: bit 3 is set."
+abbrev pub Automatic : Settings → Type 0
+Automatic set = set 0x40 ≡ 1
+
+abbrev pub Unmasked : Settings → ℕ → Type 0
+Unmasked set i = bitOf (set 0x42) i ≡ true
+
+abbrev pub Revertive : Settings → ℕ → Type 0
+Revertive set c = revertive set c ≡ true
+
+abbrev pub FreeRunEnabled : Settings → Type 0
+FreeRunEnabled set = bit (set 0x24) 4 ≡ true
+
+-- "In the priority order r is ahead of an input with a larger priority number, or with the same one and a larger input number, and of Free Run with the same
+-- priority number or a larger one." Free Run's register is that of candidate 9.
+abbrev pub AheadOfInput : Settings → ℕ → ℕ → Type 0
+AheadOfInput set r i = (priority set r < priority set i) ⊎ ((priority set r ≡ priority set i) × (r < i))
+
+abbrev pub AheadOfFreeRun : Settings → ℕ → Type 0
+AheadOfFreeRun set r = priority set r ≤ priority set 9
+
+-- r is unmasked, and ahead of every other unmasked input and of Free Run if enabled, all of those revertive
+pub record Preferred (r : ℕ) (set : Settings) : Type 0 where
+  pub unmasked : Unmasked set r
+  pub inputs : (i : ℕ) → 1 ≤ i → i ≤ 8 → (i ≡ r → ⊥) → Unmasked set i → AheadOfInput set r i × Revertive set i
+  pub freeRun : FreeRunEnabled set → AheadOfFreeRun set r × Revertive set 9
+
+-- ---- the events from the moment on
+
+-- of what counts as a write: it is turned down
+abbrev pub TurnedDown : State → Event → Type 0
+TurnedDown s e = accepted s e ≡ false
+
+-- What is asked of one event; s is the state in which it begins. No accepted tick is irregular for r ("its mask has r's bit set"), and while r is selected
+-- ("selected is r when the event begins") it reports lock. No measurement of r is in magnitude above the qualification limit. No Hit comes while r is
+-- selected. No write is accepted. "Anything may stand in the other mask bits, the other inputs' measurements and the samples, and, while r is not
+-- selected, in the lock flags; Hits may come then."
+abbrev pub Fair : ℕ → State → Event → Type 0
+Fair r s (tick mask lock x) = accepted s (tick mask lock x) ≡ true → (bitOf mask r ≡ false) × (selected s ≡ r → lock ≡ true)
+Fair r s (measurement i offset) = i ≡ r → natAbs offset ≤ qualification (s .settings)
+Fair r s hit = selected s ≡ r → ⊥
+Fair r s (write a v) = TurnedDown s (write a v)
+
+-- each event of the list, on "the state that the one before it left"
+abbrev pub AllFair : ℕ → State → List Event → Type 0
+AllFair r s [] = Unit {0}
+AllFair r s (e ∷ es) = Fair r s e × AllFair r (next s e) es
+
+-- the provisos, where s is the state at the moment and `events` are all that follow it
+pub record Provisos (r : ℕ) (s : State) (events : List Event) : Type 0 where
+  pub low : 1 ≤ r
+  pub high : r ≤ 8
+  pub automatic : Automatic (s .settings)
+  -- r's frequency alarm is clear
+  pub clear : input (s .inputs) r .frequency ≡ false
+  pub preferred : Preferred r (s .settings)
+  pub fair : AllFair r s events
+
+-- ---- the numbers
+
+-- until r is qualified (860): its lock alarm's remainder and its bucket run out, and its soak fills
+abbrev pub qualifyTicks : Bucket → ℕ
+qualifyTicks b = fullSoak - 1 + max alarmTicks ((b .size - b .clearLevel) * b .decayTicks)
+
+-- from its selection until Ready (5,519): its lock run, and 43 blocks of samples
+abbrev pub fillTicks : ℕ
+fillTicks = lockTicks - 1 + readyBlocks * blockSamples
+
+-- until r is selected, n being the reversion delay in ticks: 860 + n
+abbrev pub selectedTicks : ℕ → State → ℕ
+selectedTicks r s = qualifyTicks (bucketOf r) + reversion (s .settings)
+
+-- until Ready stands too: 6,379 + n
+abbrev pub readyTicks : ℕ → State → ℕ
+readyTicks r s = selectedTicks r s + fillTicks
+
+-- how many accepted ticks a list has
+abbrev pub isTick : Event → Bool
+isTick (tick mask lock x) = true
+isTick (measurement i offset) = false
+isTick hit = false
+isTick (write a v) = false
+
+unfoldable pub acceptedTicks : State → List Event → ℕ
+acceptedTicks s [] = 0
+acceptedTicks s (e ∷ es) = (if isTick e && accepted s e then 1 else 0) + acceptedTicks (next s e) es
+
+-- ---- the promise
+
+-- what is promised of a later state, where s is the state at the moment and `after` the events that have come since
+pub record Served (r : ℕ) (s : State) (after : List Event) (now : State) : Type 0 where
+  pub selected-is : selectedTicks r s ≤ acceptedTicks s after → selected now ≡ r
+  pub ready-is : readyTicks r s ≤ acceptedTicks s after → Ready now ≡ true
+
+-- Take every list of events from a fresh unit, `before`, `after` and `later`, with the moment after `before`, and every reference r for which the provisos
+-- hold. After the accepted tick with number 860 + n, counted from the moment, and after every later event, r is selected; after the one with number
+-- 6,379 + n, and after every later event, Ready stands too.
+abbrev pub Promise : Type 0
+Promise =
+    (before after later : List Event) (r : ℕ)
+    → Provisos r (run fresh before) (after ++ later)
+    → Served r (run fresh before) after (run fresh (before ++ (after ++ later)))

@@ -1,0 +1,25 @@
+-- The unit's state, as the rules see it.
+use Prim.Native.Nat.{ℕ}
+use mathlib.Core.Bool.{Bool}
+use Rattle.rules.specs.Pll.{Mode, Loop}
+use Rattle.rules.specs.Settings.{Settings}
+use Rattle.rules.specs.Selection.{Inputs, Choice}
+use Rattle.rules.specs.History.{History, ready}
+
+pub record State : Type 0 where
+  pub inputs : Inputs
+  pub settings : Settings
+  pub loop : Loop
+  pub choice : Choice
+  pub history : History
+  -- the ticks in Holdover after the entering event; 0 in any other state
+  pub holding : ℕ
+
+abbrev pub selected : State → ℕ
+selected s = s .choice .selected
+
+abbrev pub mode : State → Mode
+mode s = s .loop .mode
+
+abbrev pub Ready : State → Bool
+Ready s = ready (s .history)

@@ -1,0 +1,63 @@
+-- A tick: its five steps in order.
+use Prim.Native.Nat.{ℕ, _+_, min}
+use mathlib.Core.Bool.{Bool, _&&_}
+use lib.IntN.{ℤ}
+use Rattle.rules.specs.Words.{if_then_else_, bitOf, isTracked}
+use Rattle.rules.specs.Monitors.{Input, bucketOf, monitored, lockAlarmed}
+use Rattle.rules.specs.Pll.{Mode, holdover, locked, is, Loop, looped, alarmDue}
+use Rattle.rules.specs.Settings.{policy}
+use Rattle.rules.specs.Selection.{Inputs, altered, eachFrom, chosen, steered}
+use Rattle.rules.specs.History.{recorded}
+use Rattle.rules.specs.State.{State, selected, mode, Ready}
+
+-- Steps 1 and 2: each input by its bucket and its bit of the irregular mask.
+unfoldable pub watched : ℕ → Inputs → Inputs
+watched mask inputs = eachFrom (λ i. monitored (bucketOf i) (bitOf mask i)) 1 inputs
+
+-- Step 3: "Only if a reference 1 to 8 is selected when the tick begins."
+unfoldable pub loopAfter : Bool → State → Loop
+loopAfter lock s = if isTracked (selected s) then looped lock (s .loop) else s .loop
+
+-- the inputs after steps 1 to 3: the lock alarm is that of the input selected when the tick begins
+unfoldable pub inputsAfter : ℕ → Bool → State → Inputs
+inputsAfter mask lock s =
+    if isTracked (selected s) && alarmDue (loopAfter lock s) then altered lockAlarmed (selected s) (watched mask (s .inputs))
+    else watched mask (s .inputs)
+
+-- 255 hours of 28,125 ticks: the count stops here, and 0x27 shows no more than 255 (`HoursCount` in Laws)
+abbrev pub holdingLimit : ℕ
+holdingLimit = 7_171_875
+
+-- the ticks in Holdover "after the entering event": the tick that enters does not count
+unfoldable pub holdingAfter : Mode → Mode → ℕ → ℕ
+holdingAfter before after holding = if is holdover before && is holdover after then min holdingLimit (holding + 1) else 0
+
+-- Steps 1 to 4.
+unfoldable pub steps1to4 : ℕ → Bool → State → State
+steps1to4 mask lock s =
+    let inputs = inputsAfter mask lock s in
+    let choice = chosen (s .settings) inputs (s .choice) in
+    let loop = steered (s .settings) (Ready s) (selected s) (choice .selected) (loopAfter lock s) in
+    record {
+      inputs = inputs;
+      settings = s .settings;
+      loop = loop;
+      choice = choice;
+      history = s .history;
+      holding = holdingAfter (mode s) (loop .mode) (s .holding);
+    }
+
+-- Step 5.
+unfoldable pub step5 : ℤ → State → State
+step5 x s =
+    record {
+      inputs = s .inputs;
+      settings = s .settings;
+      loop = s .loop;
+      choice = s .choice;
+      history = recorded (policy (s .settings)) (selected s) (is locked (mode s)) x (s .history);
+      holding = s .holding;
+    }
+
+unfoldable pub ticked : ℕ → Bool → ℤ → State → State
+ticked mask lock x s = step5 x (steps1to4 mask lock s)
