@@ -56,15 +56,18 @@ abbrev pub Within : List ℤ → Type 0
 Within [] = Unit {0}
 Within (z ∷ zs) = (natAbs z ≤ sumLimit) × Within zs
 
--- at most 64 kept sums and 127 open samples, no sum past what its samples can have; the backup is none or 43 blocks and more
+-- at most 64 of them
+pub record SoundBlocks (l : List ℤ) : Type 0 where
+  pub count-le : length l ≤ keptBlocks
+  pub within : Within l
+
+-- at most 127 open samples, their sum no more than so many can have; the backup is none or 43 blocks and more
 pub record SoundHistory (h : History) : Type 0 where
-  pub kept-le : length (h .kept) ≤ keptBlocks
-  pub kept-within : Within (h .kept)
+  pub kept : SoundBlocks (h .kept)
   pub open-lt : h .openCount < blockSamples
   pub open-within : natAbs (h .openSum) ≤ sampleLimit * h .openCount
   pub command-le : h .command ≤ 3
-  pub backup-le : length (h .backup) ≤ keptBlocks
-  pub backup-within : Within (h .backup)
+  pub backup : SoundBlocks (h .backup)
   pub backup-full : (h .backup ≡ []) ⊎ (readyBlocks ≤ length (h .backup))
 
 pub record Lawful (s : State) : Type 0 where

@@ -79,9 +79,13 @@ pub record Provisos (r : ℕ) (s : State) (events : List Event) : Type 0 where
 
 -- ---- the numbers
 
--- until r is qualified (860): its lock alarm's remainder and its bucket run out, and its soak fills
+-- until the lock alarm's remainder and the bucket of a clock that behaves have run out, whichever is later (782)
+abbrev pub settleTicks : Bucket → ℕ
+settleTicks b = max alarmTicks ((b .size - b .clearLevel) * b .decayTicks)
+
+-- until it is qualified (860): its soak fills from there on
 abbrev pub qualifyTicks : Bucket → ℕ
-qualifyTicks b = fullSoak - 1 + max alarmTicks ((b .size - b .clearLevel) * b .decayTicks)
+qualifyTicks b = fullSoak - 1 + settleTicks b
 
 -- from its selection until Ready (5,519): its lock run, and 43 blocks of samples
 abbrev pub fillTicks : ℕ

@@ -1,0 +1,107 @@
+-- Every register reads as a byte in a lawful state: a lemma for each kind of register.
+use Prim.Native.Nat.{ℕ, zero, suc, _^_, _≤_, _<_}
+use mathlib.Core.Bool.{Bool, _||_}
+use native.Mathlib.Omega.{arith}
+use lib.Dec.{eqb}
+use Rattle.rules.specs.Monitors.{qualified}
+use Rattle.rules.specs.Pll.{Mode, modeNumber, freeRun, holdover, preLocked, locked, lossOfLock, preLocked2, is}
+use Rattle.rules.specs.Selection.{input, available}
+use Rattle.rules.specs.History.{held}
+use Rattle.rules.specs.State.{State, mode, Ready}
+use Rattle.rules.specs.Registers.{inMap, readOnly}
+use Rattle.rules.specs.Reading.{maskUpTo, countUpTo, qualifiedMask, availableMask, availableCount, hours, stateByte, statusByte, valueByte}
+use Rattle.rules.specs.Reading.{shown, content, Answer, read}
+use Rattle.rules.specs.Laws.{Lawful}
+use Rattle.rules.proofs.Tests.{if-case, if-le, if-sum}
+use Rattle.rules.proofs.Tables.{largest-byte}
+
+-- a mask of k inputs has k bits
+mask-lt : (test : ℕ → Bool) (k : ℕ) → maskUpTo test k < 2 ^ k
+unfolding maskUpTo
+mask-lt test zero = omega arith
+mask-lt test (suc k) = omega (arith, mask-lt test k, if-sum (test (suc k)) (2 ^ k) 0)
+
+-- of k inputs at most k pass a test
+count-le : (test : ℕ → Bool) (k : ℕ) → countUpTo test k ≤ k
+unfolding countUpTo
+count-le test zero = omega arith
+count-le test (suc k) = omega (arith, count-le test k, if-sum (test (suc k)) 1 0)
+
+-- the numbers of the states are 0 to 5
+mode-le : (m : Mode) → modeNumber m ≤ 5
+unfolding modeNumber
+mode-le freeRun = omega arith
+mode-le holdover = omega arith
+mode-le preLocked = omega arith
+mode-le locked = omega arith
+mode-le lossOfLock = omega arith
+mode-le preLocked2 = omega arith
+
+-- 0x27, the hours in Holdover, is a byte
+hours-byte : (s : State) → hours s ≤ 255
+unfolding hours
+hours-byte s = if-le (is holdover (mode s)) (omega arith) (omega arith)
+
+-- 0x46, the qualified mask, is a byte
+qualified-byte : (s : State) → qualifiedMask s ≤ 255
+unfolding qualifiedMask
+qualified-byte s = omega (arith, mask-lt (λ i. qualified (input (s .inputs) i)) 8)
+
+-- 0x47, the available mask, is a byte
+available-byte : (s : State) → availableMask s ≤ 255
+unfolding availableMask
+available-byte s = omega (arith, mask-lt (available (s .settings) (s .inputs)) 8)
+
+-- 0x48, the state and what is selected, is a byte
+state-byte : (s : State) → stateByte s ≤ 255
+unfolding stateByte
+state-byte s = omega (arith, mode-le (mode s))
+
+-- 0x49, alarms and Ready, is a byte: it has four bits
+status-byte : (s : State) → statusByte s ≤ 255
+unfolding statusByte
+status-byte s =
+    omega (
+      arith,
+      if-sum (is holdover (mode s) || is freeRun (mode s)) 1 0,
+      if-sum (is locked (mode s)) 0 2,
+      if-sum (Ready s) 4 0,
+      if-sum (held (s .history .backup)) 8 0,
+    )
+
+-- 0x4a to 0x4d: each byte of the value is one
+value-byte : (s : State) (k : ℕ) → valueByte s k ≤ 255
+unfolding valueByte
+value-byte s k = if-le (Ready s) (omega arith) (omega arith)
+
+-- 0x4e, how many references are available, is a byte
+count-byte : (s : State) → availableCount s ≤ 255
+unfolding availableCount
+count-byte s = omega (arith, count-le (available (s .settings) (s .inputs)) 8)
+
+-- each register that is read only shows a byte
+shown-byte : (s : State) (a : ℕ) → shown s a ≤ 255
+unfolding shown
+shown-byte s a =
+    if-le (eqb a 0x27) (hours-byte s)
+    (if-le (eqb a 0x46) (qualified-byte s)
+    (if-le (eqb a 0x47) (available-byte s)
+    (if-le (eqb a 0x48) (state-byte s)
+    (if-le (eqb a 0x49) (status-byte s)
+    (if-le (eqb a 0x4a) (value-byte s 0)
+    (if-le (eqb a 0x4b) (value-byte s 1)
+    (if-le (eqb a 0x4c) (value-byte s 2)
+    (if-le (eqb a 0x4d) (value-byte s 3)
+    (count-byte s)))))))))
+
+-- each register of the map holds a byte
+content-byte : (s : State) → Lawful s → (a : ℕ) → content s a ≤ 255
+unfolding content
+content-byte s w a =
+    if-le (readOnly a) (shown-byte s a)
+    (if-le (eqb a 0x26) (omega (arith, w .history .command-le)) (omega (arith, w .settings .largest-le a, largest-byte a)))
+
+-- each register of a lawful state reads as a byte, and so does an address outside the map
+pub read-byte : (s : State) → Lawful s → (a : ℕ) → read s a .byte < 256
+unfolding read
+read-byte s w a = if-case (λ (x : Answer). x .byte < 256) (inMap a) (λ e. omega (arith, content-byte s w a)) (λ e. omega arith)

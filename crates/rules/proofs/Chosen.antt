@@ -1,0 +1,124 @@
+-- What the choice of a tick comes to.
+use Prim.Native.Nat.{ℕ, _-_, _+_, _≤_, _<_, min}
+use mathlib.Core.Path.{_≡_, refl, sym, ap, _∙_}
+use mathlib.Core.Logic.{_⊎_, inl, inr}
+use mathlib.Core.Bool.{Bool, true, false, not, _&&_, _||_}
+use native.Mathlib.Omega.{arith}
+use lib.Dec.{leb, eqb}
+use borrow.Author.Tests.{eqb-true, eqb-false, leb-false, eq-eqb, not-false, not-true}
+use Rattle.rules.specs.Words.{if_then_else_, isInput}
+use Rattle.rules.specs.Monitors.{qualified}
+use Rattle.rules.specs.Settings.{Settings, automatic, opMode, revertive, reversion}
+use Rattle.rules.specs.Selection.{Inputs, input, Choice, candidate, best, settled, waitLimit, waitAfter, switches, reverted, reselected, manual, chosen}
+use Rattle.rules.specs.Laws.{BestOf}
+use Rattle.rules.proofs.Tests.{if-case, by-test, clash, and-left, and-right, low, high}
+use Rattle.rules.proofs.Best.{available-is, candidate-is, candidate-number, best-of}
+
+-- ---- every choice
+
+-- what may be selected: none, Free Run, or a qualified reference
+abbrev pub Selectable : Inputs → ℕ → Type 0
+Selectable inputs c = ((c ≡ 0) ⊎ (c ≡ 9)) ⊎ ((isInput c ≡ true) × (qualified (input inputs c) ≡ true))
+
+-- the wait goes on: another candidate than the best stays selected
+abbrev pub waiting : ℕ → Choice → Choice
+waiting b c = record { selected = c .selected; wait = waitAfter b c; waitFor = b }
+
+module _ (set : Settings) (inputs : Inputs) (c : Choice) where
+  candidate-selectable : (x : ℕ) → candidate set inputs x ≡ true → Selectable inputs x
+  candidate-selectable x e = candidate-is set inputs x e (λ z u. inl (inr z)) (λ a. inr (available-is set inputs x a .0, available-is set inputs x a .2))
+
+  best-selectable : Selectable inputs (best set inputs)
+  best-selectable = go (best-of set inputs)
+    where
+      go : BestOf set inputs (best set inputs) → Selectable inputs (best set inputs)
+      go (inl n) = inl (inl (n .0))
+      go (inr w) = candidate-selectable (best set inputs) (w .0)
+
+  -- A choice settles on what may be selected, or lets the selected candidate wait on.
+  pub chosen-case : (P : Choice → Type 0)
+      → ((x : ℕ) → Selectable inputs x → P (settled x))
+      → (candidate set inputs (c .selected) ≡ true → switches (reversion set) (waitAfter (best set inputs) c) ≡ false → P (waiting (best set inputs) c))
+      → P (chosen set inputs c)
+  unfolding chosen reselected reverted manual
+  chosen-case P settle wait =
+      if-case P (automatic set)
+      (λ a. if-case P (not (candidate set inputs (c .selected))) (λ n. settle b best-selectable)
+      (λ n. if-case P (eqb (c .selected) b) (λ e. settle (c .selected) (here n))
+      (λ e. if-case P (not (revertive set (c .selected))) (λ v. settle (c .selected) (here n))
+      (λ v. if-case P (switches (reversion set) (waitAfter b c)) (λ w. settle b best-selectable) (λ w. wait (is-candidate n) w)))))
+      (λ a. settle _ (if-case (Selectable inputs) (isInput (opMode set) && qualified (input inputs (opMode set)))
+      (λ t. inr (and-left (isInput (opMode set)) (qualified (input inputs (opMode set))) t, and-right (isInput (opMode set)) (qualified (input inputs (opMode set))) t))
+      (λ t. inl (inl refl))))
+    where
+      b : ℕ
+      b = best set inputs
+
+      is-candidate : not (candidate set inputs (c .selected)) ≡ false → candidate set inputs (c .selected) ≡ true
+      is-candidate n = not-false (candidate set inputs (c .selected)) n
+
+      here : not (candidate set inputs (c .selected)) ≡ false → Selectable inputs (c .selected)
+      here n = candidate-selectable (c .selected) (is-candidate n)
+
+  pub chosen-selectable : Selectable inputs (chosen set inputs c .selected)
+  unfolding settled
+  chosen-selectable = chosen-case (λ d. Selectable inputs (d .selected)) (λ x s. s) (λ e w. candidate-selectable (c .selected) e)
+
+  -- Op_Mode 0 in manual selects none
+  pub manual-none : (not (automatic set) && eqb (opMode set) 0) ≡ true → chosen set inputs c .selected ≡ 0
+  unfolding chosen manual settled
+  manual-none e =
+      rw (not-true (automatic set) (and-left (not (automatic set)) (eqb (opMode set) 0) e), eqb-true (opMode set) 0 (and-right (not (automatic set)) (eqb (opMode set) 0) e)) refl
+
+-- a number that may be selected is at most 9
+pub selectable-le : (inputs : Inputs) (c : ℕ) → Selectable inputs c → c ≤ 9
+selectable-le inputs c (inl (inl z)) = omega arith
+selectable-le inputs c (inl (inr z)) = omega arith
+selectable-le inputs c (inr q) = omega (arith, high 1 8 c (q .0))
+
+-- ---- the choice where r is best and every other candidate is revertive
+
+-- r is not selected yet: another candidate is, and the wait for r goes on
+pub record Waits (n r : ℕ) (c d : Choice) : Type 0 where
+  pub counts : d .wait ≡ waitAfter r c
+  pub for : d .waitFor ≡ r
+  pub within : waitAfter r c ≤ n
+  pub other : c .selected ≡ r → ⊥
+  pub some : c .selected ≡ 0 → ⊥
+
+reverted-cases : (n r : ℕ) (c : Choice) → (c .selected ≡ r → ⊥) → (c .selected ≡ 0 → ⊥) → (reverted n r c .selected ≡ r) ⊎ Waits n r c (reverted n r c)
+unfolding reverted settled switches
+reverted-cases n r c ne nz =
+    if-case (λ (d : Choice). (d .selected ≡ r) ⊎ Waits n r c d) (leb n (waitAfter r c - 1)) (λ e. inl refl)
+    (λ e. inr (record { counts = refl; for = refl; within = omega (arith, leb-false n (waitAfter r c - 1) e); other = ne; some = nz }))
+
+pub reselected-cases : (set : Settings) (inputs : Inputs) (r : ℕ) (c : Choice)
+    → ((x : ℕ) → candidate set inputs x ≡ true → (x ≡ r → ⊥) → revertive set x ≡ true)
+    → (reselected set inputs r c .selected ≡ r) ⊎ Waits (reversion set) r c (reselected set inputs r c)
+unfolding reselected settled
+reselected-cases set inputs r c all =
+    if-case Fine (not (candidate set inputs (c .selected))) (λ n. inl refl)
+    (λ n. if-case Fine (eqb (c .selected) r) (λ e. inl (eqb-true (c .selected) r e))
+    (λ e. if-case Fine (not (revertive set (c .selected)))
+    (λ v. clash (all (c .selected) (is-candidate n) (eqb-false (c .selected) r e)) (not-true (revertive set (c .selected)) v))
+    (λ v. reverted-cases (reversion set) r c (eqb-false (c .selected) r e) (some (candidate-number set inputs (c .selected) (is-candidate n) .0)))))
+  where
+    Fine : Choice → Type 0
+    Fine d = (d .selected ≡ r) ⊎ Waits (reversion set) r c d
+
+    is-candidate : not (candidate set inputs (c .selected)) ≡ false → candidate set inputs (c .selected) ≡ true
+    is-candidate n = not-false (candidate set inputs (c .selected)) n
+
+    some : 1 ≤ c .selected → c .selected ≡ 0 → ⊥
+    some l z = omega arith
+
+-- ---- the wait
+
+pub wait-one : (r : ℕ) (c : Choice) → 1 ≤ waitAfter r c
+unfolding waitAfter
+wait-one r c = if-case (λ m. 1 ≤ m) (eqb (c .wait) 0 || not (eqb (c .waitFor) r)) (λ e. omega arith) (λ e. omega arith)
+
+pub wait-more : (r : ℕ) (c : Choice) → c .wait < waitLimit → c .waitFor ≡ r → c .wait + 1 ≤ waitAfter r c
+unfolding waitAfter
+wait-more r c l e =
+    by-test (eqb (c .wait) 0) (λ z. rw z (omega (arith, eqb-true (c .wait) 0 z))) (λ z. rw (z, e, eq-eqb r r refl) (omega arith))

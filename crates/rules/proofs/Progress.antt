@@ -1,0 +1,355 @@
+-- For the promise of service: how far the unit has come after k accepted ticks from the moment, and that each fair event keeps or advances that.
+use Prim.Native.Nat.{ℕ, suc, _+_, _-_, _*_, _≤_, _<_, min}
+use mathlib.Core.Path.{_≡_, refl, sym, ap, _∙_, subst}
+use mathlib.Core.Logic.{_⊎_, inl, inr}
+use mathlib.Core.Bool.{Bool, true, false, not, _&&_}
+use mathlib.Core.List.{List, [], _∷_}
+use native.Mathlib.Omega.{arith}
+use lib.Dec.{leb, ltb, eqb}
+use lib.IntN.{ℤ, natAbs, _+ℤ_}
+use lib.ListN.{length, take, length-take}
+use borrow.Author.Tests.{eqb-true, eqb-false, leb-true, leb-false, ltb-true, ltb-false, eq-eqb, ne-eqb}
+use Rattle.rules.specs.Words.{if_then_else_, bitOf, isInput, isTracked, isCounted}
+use Rattle.rules.specs.Events.{Event, tick, measurement, hit, write, sampleLimit}
+use Rattle.rules.specs.Monitors.{bucketOf, Input, monitored, measured, unsoaked, lockAlarmed, qualified}
+use Rattle.rules.specs.Pll.{Mode, locked, is, modeNumber, Loop, lockTicks, looped, alarmDue}
+use Rattle.rules.specs.Settings.{Settings, policy, automatic, reject, qualification, priority, usable, revertive, ahead, reversion}
+use Rattle.rules.specs.Selection.{Inputs, input, altered, Choice, available, candidate, best, settled, waitAfter, waitLimit, reselected, chosen, modeAfter, steered}
+use Rattle.rules.specs.History.{History, blockSamples, keptBlocks, readyBlocks, refilled, withBlocks, saturated, sampled, withLast, noted, recorded}
+use Rattle.rules.specs.State.{State, selected, mode, Ready}
+use Rattle.rules.specs.Tick.{watched, loopAfter, inputsAfter, steps1to4, step5, ticked}
+use Rattle.rules.specs.Refusals.{refusal, accepted}
+use Rattle.rules.specs.Run.{afterMeasurement, afterHit, effect, next, run}
+use Rattle.rules.specs.Laws.{SoundInputs, Lawful}
+use Rattle.rules.specs.Service.{AheadOfInput, AheadOfFreeRun, Revertive, Preferred, Fair, AllFair, qualifyTicks, isTick, acceptedTicks}
+use Rattle.rules.proofs.Tests.{if-case, by-test, clash, and-false, and-left, and-right, low, high, is-between, zero-if}
+use Rattle.rules.proofs.EightInputs.{input-each, input-altered-other, input-altered-same}
+use Rattle.rules.proofs.OneInput.{bucket-works, Calm, calm-tick, calm-qualified, calm-measured}
+use Rattle.rules.proofs.Best.{ahead-is, candidate-usable, best-is}
+use Rattle.rules.proofs.Chosen.{Waits, reselected-cases, wait-one, wait-more}
+use Rattle.rules.proofs.Invariants.{choiceAfter, sound-inputs, sound-watched, lawful-tick, lawful-next}
+
+-- ---- the settings: r leads, and whatever else is usable is revertive
+
+pub record Leading (r : ℕ) (set : Settings) : Type 0 where
+  pub unmasked : usable set r ≡ true
+  pub leads : (c : ℕ) → usable set c ≡ true → (c ≡ r → ⊥) → ahead set r c ≡ true
+  pub reverts : (c : ℕ) → usable set c ≡ true → (c ≡ r → ⊥) → revertive set c ≡ true
+
+module _ (r : ℕ) (set : Settings) (ref : isInput r ≡ true) (p : Preferred r set) where
+  usable-input : (i : ℕ) → (i ≡ 9 → ⊥) → usable set i ≡ (isInput i && bitOf (set 0x42) i)
+  unfolding usable
+  usable-input i ne = rw (ne-eqb i 9 ne) refl
+
+  -- a usable candidate is Free Run, enabled, or an unmasked input
+  other : (c : ℕ) → usable set c ≡ true → (c ≡ r → ⊥) → (ahead set r c ≡ true) × (revertive set c ≡ true)
+  unfolding usable
+  other c u ne = by-test (eqb c 9) (λ e. free (eqb-true c 9 e)) (λ e. one (eqb-false c 9 e))
+    where
+      free : c ≡ 9 → (ahead set r c ≡ true) × (revertive set c ≡ true)
+      free e = (rw e (ahead-is set r 9 order), rw e (q .1))
+        where
+          q : AheadOfFreeRun set r × Revertive set 9
+          q = p .freeRun (sym (ap (usable set) e) ∙ u)
+
+          order : AheadOfInput set r 9
+          order =
+              by-test (ltb (priority set r) (priority set 9)) (λ t. inl (ltb-true (priority set r) (priority set 9) t))
+              (λ t. inr (omega (arith, q .0, ltb-false (priority set r) (priority set 9) t), omega (arith, high 1 8 r ref)))
+
+      one : (c ≡ 9 → ⊥) → (ahead set r c ≡ true) × (revertive set c ≡ true)
+      one e = (ahead-is set r c (q .0), q .1)
+        where
+          both : (isInput c && bitOf (set 0x42) c) ≡ true
+          both = sym (usable-input c e) ∙ u
+
+          rc : isInput c ≡ true
+          rc = and-left (isInput c) (bitOf (set 0x42) c) both
+
+          q : AheadOfInput set r c × Revertive set c
+          q = p .inputs c (low 1 8 c rc) (high 1 8 c rc) ne (and-right (isInput c) (bitOf (set 0x42) c) both)
+
+  pub leading : Leading r set
+  leading =
+      record {
+        unmasked = rw (usable-input r (λ e. omega (arith, high 1 8 r ref)), ref) (p .unmasked);
+        leads = λ c u ne. other c u ne .0;
+        reverts = λ c u ne. other c u ne .1;
+      }
+
+-- ---- the history while r is selected
+
+-- j ticks since the selection have brought all but the lock run's first 15 of them as samples, or Ready
+abbrev pub Filled : ℕ → History → Type 0
+Filled j h = (j ≤ lockTicks - 1 + (blockSamples * length (h .kept) + h .openCount)) ⊎ (readyBlocks ≤ length (h .kept))
+
+filled-sampled : (j : ℕ) (x : ℤ) (h : History) → h .openCount < blockSamples → Filled j h → Filled (suc j) (sampled x h)
+unfolding sampled withBlocks refilled
+filled-sampled j x h few f =
+    if-case (Filled (suc j)) (leb blockSamples (h .openCount + 1)) (λ e. whole (leb-true blockSamples (h .openCount + 1) e) f) (λ e. part f)
+  where
+    sum : ℤ
+    sum = saturated (h .openSum +ℤ x)
+
+    longer : length (take keptBlocks (sum ∷ h .kept)) ≡ min keptBlocks (suc (length (h .kept)))
+    longer = length-take keptBlocks (sum ∷ h .kept)
+
+    whole : blockSamples ≤ h .openCount + 1 → Filled j h → Filled (suc j) (withBlocks (take keptBlocks (sum ∷ h .kept)) h)
+    whole e (inr l) = inr (omega (arith, longer))
+    whole e (inl l) =
+        by-test (leb readyBlocks (length (h .kept) + 1)) (λ t. inr (omega (arith, longer, leb-true readyBlocks (length (h .kept) + 1) t)))
+        (λ t. inl (omega (arith, longer, leb-false readyBlocks (length (h .kept) + 1) t)))
+
+    part : Filled j h → Filled (suc j) (refilled (h .kept) sum (h .openCount + 1) h)
+    part (inl l) = inl (omega arith)
+    part (inr l) = inr l
+
+-- the reference selected last is selected still: nothing is emptied
+noted-same : (pol r : ℕ) (h : History) → isCounted r ≡ true → h .last ≡ r → noted pol r h ≡ withLast r h
+unfolding noted
+noted-same pol r h ref e = rw (ref, e, eq-eqb r r refl, and-false (eqb pol 0)) refl
+
+filled-recorded : (j pol r : ℕ) (x : ℤ) (h : History) → isCounted r ≡ true → h .last ≡ r → h .openCount < blockSamples → Filled j h
+    → Filled (suc j) (recorded pol r true x h)
+unfolding recorded withLast
+filled-recorded j pol r x h ref e few f = rw (noted-same pol r h ref e) (filled-sampled j x (withLast r h) few f)
+
+-- ---- the loop while r is selected
+
+-- j ticks since the selection, all of them reporting lock: towards Locked, then towards Ready
+abbrev pub Serving : ℕ → Loop → History → Type 0
+Serving j p h = ((j ≤ p .lockRun) × (j ≤ lockTicks - 1)) ⊎ ((p .lockRun ≡ lockTicks) × Filled j h)
+
+serving-less : (i j : ℕ) (p : Loop) (h : History) → i ≤ j → Serving j p h → Serving i p h
+serving-less i j p h l (inl q) = inl (omega (arith, q .0), omega (arith, q .1))
+serving-less i j p h l (inr q) = inr (q .0, less (q .1))
+  where
+    less : Filled j h → Filled i h
+    less (inl m) = inl (omega arith)
+    less (inr m) = inr m
+
+-- the loop after steps 3 and 4 of a tick that reports lock, where r was and stays selected
+module _ (set : Settings) (rd : Bool) (r : ℕ) (p : Loop) (ref : isTracked r ≡ true) where
+  loop-same : (before after : ℕ) (lock : Bool) → before ≡ r → after ≡ r → lock ≡ true
+      → steered set rd before after (if isTracked before then looped lock p else p) ≡ steered set rd r r (looped true p)
+  loop-same before after lock b a l = rw (b, a, l, ref) refl
+
+  loop-run : steered set rd r r (looped true p) .lockRun ≡ min lockTicks (p .lockRun + 1)
+  unfolding steered looped
+  loop-run = rw (eq-eqb r r refl) refl
+
+  loop-mode : automatic set ≡ true → lockTicks - 1 ≤ p .lockRun → steered set rd r r (looped true p) .mode ≡ locked
+  unfolding steered looped modeAfter
+  loop-mode auto l =
+      rw (auto, ne-eqb r 9 (λ z. omega (arith, high 1 8 r ref)), ne-eqb r 0 (λ z. omega (arith, low 1 8 r ref)), eq-eqb r r refl, eq-eqb (min lockTicks (p .lockRun + 1)) lockTicks (omega arith)) refl
+
+  serving-tick : (j pol : ℕ) (x : ℤ) (h : History) → automatic set ≡ true → h .last ≡ r → h .openCount < blockSamples → Serving j p h
+      → (q : Loop) → q ≡ steered set rd r r (looped true p) → Serving (suc j) q (recorded pol r (is locked (q .mode)) x h)
+  unfolding modeNumber
+  serving-tick j pol x h auto last few s q e = go s
+    where
+      run-is : q .lockRun ≡ min lockTicks (p .lockRun + 1)
+      run-is = ap (λ (z : Loop). z .lockRun) e ∙ loop-run
+
+      fill : lockTicks - 1 ≤ p .lockRun → Filled j h → Serving (suc j) q (recorded pol r (is locked (q .mode)) x h)
+      fill l f = inr (omega (arith, run-is), rw (ap (λ (z : Loop). z .mode) e ∙ loop-mode auto l) (filled-recorded j pol r x h ref last few f))
+
+      go : Serving j p h → Serving (suc j) q (recorded pol r (is locked (q .mode)) x h)
+      go (inr w) = fill (omega (arith, w .0)) (w .1)
+      go (inl w) =
+          by-test (leb (lockTicks - 1) (p .lockRun)) (λ t. fill (leb-true (lockTicks - 1) (p .lockRun) t) (inl (omega (arith, w .1))))
+          (λ t. inl (omega (arith, run-is, w .0, leb-false (lockTicks - 1) (p .lockRun) t), omega (arith, w .0, leb-false (lockTicks - 1) (p .lockRun) t)))
+
+-- ---- how far the unit is, k accepted ticks after the moment; q is the tick by which r is qualified, and n the reversion delay
+
+pub data Phase (q n r k : ℕ) (c : Choice) (p : Loop) (h : History) : Type 0 where
+  -- r need not be qualified yet
+  early : k < q → Phase q n r k c p h
+  -- r is available; nothing is selected (a Hit), or another is and has waited for r since tick q
+  waits : q ≤ k → k < q + n → (c .selected ≡ 0) ⊎ ((k < c .wait + q) × (c .waitFor ≡ r)) → Phase q n r k c p h
+  -- r is selected
+  serves : q ≤ k → c .selected ≡ r → Serving (k - (q + n)) p h → Phase q n r k c p h
+
+abbrev pub phaseOf : ℕ → ℕ → ℕ → State → Type 0
+phaseOf n r k s = Phase (qualifyTicks (bucketOf r)) n r k (s .choice) (s .loop) (s .history)
+
+pub record Going (n r k : ℕ) (s : State) : Type 0 where
+  pub auto : automatic (s .settings) ≡ true
+  pub prefer : Leading r (s .settings)
+  pub wait-is : reversion (s .settings) ≡ n
+  pub lawful : Lawful s
+  pub calm : Calm (bucketOf r) k (input (s .inputs) r)
+  pub phase : phaseOf n r k s
+
+-- r's availability makes it the best, and the choice is made at r
+module _ (set : Settings) (inputs : Inputs) (r : ℕ) (ref : isInput r ≡ true) (auto : automatic set ≡ true) (prefer : Leading r set) (qual : qualified (input inputs r) ≡ true) where
+  r-candidate : candidate set inputs r ≡ true
+  unfolding candidate available
+  r-candidate = rw (ne-eqb r 9 (λ z. omega (arith, high 1 8 r ref)), ref, prefer .unmasked, qual) refl
+
+  chosen-is : (c : Choice) → chosen set inputs c ≡ reselected set inputs r c
+  unfolding chosen
+  chosen-is c = rw (auto, best-is set inputs r r-candidate (λ x e ne. prefer .leads x (candidate-usable set inputs x e) ne)) refl
+
+  pub chosen-cases : (c : Choice) → (chosen set inputs c .selected ≡ r) ⊎ Waits (reversion set) r c (chosen set inputs c)
+  chosen-cases c = rw (chosen-is c) (reselected-cases set inputs r c (λ x e ne. prefer .reverts x (candidate-usable set inputs x e) ne))
+
+-- ---- a tick
+
+-- r's record after steps 1 to 3: a tick that reports lock sets no alarm on the selected reference
+no-alarm : (lock : Bool) (s : State) → isTracked (selected s) ≡ true → lock ≡ true → alarmDue (loopAfter lock s) ≡ false
+unfolding loopAfter looped alarmDue
+no-alarm lock s t e = rw (t, e) refl
+
+calm-inputs : (k mask r : ℕ) (lock : Bool) (s : State) → isInput r ≡ true → SoundInputs (s .inputs) → Calm (bucketOf r) k (input (s .inputs) r)
+    → bitOf mask r ≡ false → (selected s ≡ r → lock ≡ true) → Calm (bucketOf r) (suc k) (input (inputsAfter mask lock s) r)
+unfolding inputsAfter watched
+calm-inputs k mask r lock s ref w c reg locks =
+    if-case (λ (l : Inputs). Calm (bucketOf r) (suc k) (input l r)) (isTracked (selected s) && alarmDue (loopAfter lock s)) alarm (λ t. now)
+  where
+    now : Calm (bucketOf r) (suc k) (input (watched mask (s .inputs)) r)
+    now =
+        rw (input-each (λ i. monitored (bucketOf i) (bitOf mask i)) r (s .inputs) (low 1 8 r ref) (omega (arith, w .eight, high 1 8 r ref)), reg)
+        (calm-tick (bucketOf r) bucket-works k (input (s .inputs) r) (w .each r ref) c)
+
+    alarm : (isTracked (selected s) && alarmDue (loopAfter lock s)) ≡ true → Calm (bucketOf r) (suc k) (input (altered lockAlarmed (selected s) (watched mask (s .inputs))) r)
+    alarm t =
+        rw (input-altered-other lockAlarmed (selected s) r (watched mask (s .inputs)) (low 1 8 (selected s) tracked) (low 1 8 r ref)
+        (λ e. clash (and-right (isTracked (selected s)) (alarmDue (loopAfter lock s)) t) (no-alarm lock s tracked (locks e)))) now
+      where
+        tracked : isTracked (selected s) ≡ true
+        tracked = and-left (isTracked (selected s)) (alarmDue (loopAfter lock s)) t
+
+-- the phase after a tick, by the choice that it makes
+module _ (q n r k : ℕ) (c d : Choice) (p : Loop) (h : History) (short : c .wait < waitLimit) where
+  phase-first : suc k ≡ q → (d .selected ≡ r) ⊎ Waits n r c d → Phase q n r (suc k) d p h
+  phase-first e (inl t) = serves (omega arith) t (inl (omega arith, omega arith))
+  phase-first e (inr w) = waits (omega arith) (omega (arith, w .within, wait-one r c)) (inr (omega (arith, w .counts, wait-one r c), w .for))
+
+  phase-waits : q ≤ k → k < q + n → (c .selected ≡ 0) ⊎ ((k < c .wait + q) × (c .waitFor ≡ r)) → (d .selected ≡ r) ⊎ Waits n r c d → Phase q n r (suc k) d p h
+  phase-waits lo hi u (inl t) = serves (omega arith) t (inl (omega arith, omega arith))
+  phase-waits lo hi (inl z) (inr w) = absurd (w .some z)
+  phase-waits lo hi (inr z) (inr w) =
+      waits (omega arith) (omega (arith, z .0, wait-more r c short (z .1), w .within))
+      (inr (omega (arith, z .0, w .counts, wait-more r c short (z .1)), w .for))
+
+going-tick : (n r k mask : ℕ) (lock : Bool) (x : ℤ) (s : State) → isInput r ≡ true → Going n r k s → Lawful (ticked mask lock x s)
+    → bitOf mask r ≡ false → (selected s ≡ r → lock ≡ true) → Going n r (suc k) (ticked mask lock x s)
+unfolding ticked step5 steps1to4 loopAfter
+going-tick n r k mask lock x s ref g after reg locks =
+    record { auto = g .auto; prefer = g .prefer; wait-is = g .wait-is; lawful = after; calm = calm-after; phase = go (g .phase) }
+  where
+    Q : ℕ
+    Q = qualifyTicks (bucketOf r)
+
+    I : Inputs
+    I = inputsAfter mask lock s
+
+    D : Choice
+    D = choiceAfter mask lock s
+
+    L : Loop
+    L = ticked mask lock x s .loop
+
+    H : History
+    H = ticked mask lock x s .history
+
+    calm-after : Calm (bucketOf r) (suc k) (input I r)
+    calm-after = calm-inputs k mask r lock s ref (g .lawful .inputs) (g .calm) reg locks
+
+    choice-made : Q ≤ suc k → (D .selected ≡ r) ⊎ Waits n r (s .choice) D
+    choice-made h =
+        subst (λ m. (D .selected ≡ r) ⊎ Waits m r (s .choice) D) (g .wait-is)
+        (chosen-cases (s .settings) I r ref (g .auto) (g .prefer) (calm-qualified (bucketOf r) bucket-works (suc k) (input I r) (after .inputs .each r ref) calm-after h) (s .choice))
+
+    -- r was selected, and stays so
+    serve : Q ≤ k → selected s ≡ r → Serving (k - (Q + n)) (s .loop) (s .history) → (D .selected ≡ r) ⊎ Waits n r (s .choice) D → Phase Q n r (suc k) D L H
+    serve lo e sv (inr w) = absurd (w .other e)
+    serve lo e sv (inl t) =
+        serves (omega arith) t
+        (serving-less (suc k - (Q + n)) (suc (k - (Q + n))) L H (omega arith)
+        (subst (λ m. Serving (suc (k - (Q + n))) L (recorded (policy (s .settings)) m (is locked (L .mode)) x (s .history))) (sym t)
+        (serving-tick (s .settings) (Ready s) r (s .loop) ref (k - (Q + n)) (policy (s .settings)) x (s .history) (g .auto)
+        (g .lawful .last (ap isTracked e ∙ ref) ∙ e) (g .lawful .history .open-lt) sv L here)))
+      where
+        here : L ≡ steered (s .settings) (Ready s) r r (looped true (s .loop))
+        here = loop-same (s .settings) (Ready s) r (s .loop) ref (selected s) (D .selected) lock e t (locks e)
+
+    go : phaseOf n r k s → Phase Q n r (suc k) D L H
+    go (early h) =
+        by-test (leb Q (suc k))
+        (λ e. phase-first Q n r k (s .choice) D L H (g .lawful .loop .wait-lt) (omega (arith, leb-true Q (suc k) e)) (choice-made (leb-true Q (suc k) e)))
+        (λ e. early (leb-false Q (suc k) e))
+    go (waits lo hi u) = phase-waits Q n r k (s .choice) D L H (g .lawful .loop .wait-lt) lo hi u (choice-made (omega arith))
+    go (serves lo e sv) = serve lo e sv (choice-made (omega arith))
+
+-- ---- the other events
+
+going-measurement : (n r k i : ℕ) (x : ℤ) (s : State) → isInput r ≡ true → isInput i ≡ true → Going n r k s → Lawful (afterMeasurement i x s)
+    → (i ≡ r → natAbs x ≤ qualification (s .settings)) → Going n r k (afterMeasurement i x s)
+unfolding afterMeasurement
+going-measurement n r k i x s ref ri g after small =
+    record { auto = g .auto; prefer = g .prefer; wait-is = g .wait-is; lawful = after; calm = by-test (eqb i r) same other-input; phase = g .phase }
+  where
+    f : Input → Input
+    f = measured (reject (s .settings)) (qualification (s .settings)) x
+
+    same : eqb i r ≡ true → Calm (bucketOf r) k (input (altered f i (s .inputs)) r)
+    same e =
+        rw (eqb-true i r e, input-altered-same f r (s .inputs) (low 1 8 r ref) (omega (arith, g .lawful .inputs .eight, high 1 8 r ref)))
+        (calm-measured (bucketOf r) bucket-works k (reject (s .settings)) (qualification (s .settings)) x (input (s .inputs) r)
+        (omega (arith, g .lawful .settings .apart)) (small (eqb-true i r e)) (g .calm))
+
+    other-input : eqb i r ≡ false → Calm (bucketOf r) k (input (altered f i (s .inputs)) r)
+    other-input e = rw (input-altered-other f i r (s .inputs) (low 1 8 i ri) (low 1 8 r ref) (eqb-false i r e)) (g .calm)
+
+going-hit : (n r k : ℕ) (s : State) → isInput r ≡ true → isTracked (selected s) ≡ true → Going n r k s → Lawful (afterHit s)
+    → (selected s ≡ r → ⊥) → Going n r k (afterHit s)
+unfolding afterHit settled
+going-hit n r k s ref rs g after ne =
+    record {
+      auto = g .auto;
+      prefer = g .prefer;
+      wait-is = g .wait-is;
+      lawful = after;
+      calm = rw (input-altered-other unsoaked (selected s) r (s .inputs) (low 1 8 (selected s) rs) (low 1 8 r ref) ne) (g .calm);
+      phase = go (g .phase);
+    }
+  where
+    go : phaseOf n r k s → phaseOf n r k (afterHit s)
+    go (early h) = early h
+    go (waits lo hi u) = waits lo hi (inl refl)
+    go (serves lo e sv) = absurd (ne e)
+
+-- ---- a fair event, and a list of them
+
+module _ (n r : ℕ) (ref : isInput r ≡ true) where
+  still : (k : ℕ) (s : State) → Going n r k s → Going n r (0 + k) s
+  still k s g = subst (λ (m : ℕ). Going n r m s) (omega arith) g
+
+  going-next : (k : ℕ) (s : State) (e : Event) → Fair r s e → Going n r k s → Lawful (next s e)
+      → Going n r ((if isTick e && accepted s e then 1 else 0) + k) (next s e)
+  unfolding next effect refusal
+  going-next k s (tick mask lock x) fair g = go (accepted s (tick mask lock x)) refl
+    where
+      go : (b : Bool) → accepted s (tick mask lock x) ≡ b → Lawful (if b then ticked mask lock x s else s) → Going n r ((if b then 1 else 0) + k) (if b then ticked mask lock x s else s)
+      go true e after = subst (λ (m : ℕ). Going n r m (ticked mask lock x s)) (omega arith) (going-tick n r k mask lock x s ref g after (fair e .0) (fair e .1))
+      go false e after = still k s g
+  going-next k s (measurement i x) fair g = go (accepted s (measurement i x)) refl
+    where
+      go : (b : Bool) → accepted s (measurement i x) ≡ b → Lawful (if b then afterMeasurement i x s else s) → Going n r (0 + k) (if b then afterMeasurement i x s else s)
+      go true e after = still k (afterMeasurement i x s) (going-measurement n r k i x s ref (zero-if (isInput i) 5 e) g after fair)
+      go false e after = still k s g
+  going-next k s hit fair g = go (accepted s hit) refl
+    where
+      go : (b : Bool) → accepted s hit ≡ b → Lawful (if b then afterHit s else s) → Going n r (0 + k) (if b then afterHit s else s)
+      go true e after = still k (afterHit s) (going-hit n r k s ref (zero-if (isTracked (selected s)) 4 e) g after fair)
+      go false e after = still k s g
+  going-next k s (write a v) fair g = λ after. rw fair (still k s g)
+
+  pub going-run : (es : List Event) (k : ℕ) (s : State) → AllFair r s es → Going n r k s → Going n r (acceptedTicks s es + k) (run s es)
+  unfolding run acceptedTicks
+  going-run [] k s fair g = still k s g
+  going-run (e ∷ es) k s fair g =
+      subst (λ (m : ℕ). Going n r m (run (next s e) es)) (omega arith)
+      (going-run es ((if isTick e && accepted s e then 1 else 0) + k) (next s e) (fair .1) (going-next k s e (fair .0) g (lawful-next s e (g .lawful))))

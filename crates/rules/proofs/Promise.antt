@@ -1,0 +1,102 @@
+-- Demand 3 of the rules: the promise of service, proved.
+use Prim.Native.Nat.{ℕ, _+_, _-_, _*_, _≤_, _<_}
+use mathlib.Core.Path.{_≡_, refl, sym, ap, _∙_}
+use mathlib.Core.Logic.{_⊎_, inl, inr}
+use mathlib.Core.Bool.{Bool, true, false}
+use mathlib.Core.List.{List, [], _∷_, _++_}
+use native.Mathlib.Omega.{arith}
+use lib.Dec.{leb}
+use lib.ListN.{length}
+use borrow.Author.Tests.{le-leb, eq-eqb}
+use Rattle.rules.specs.Words.{isInput}
+use Rattle.rules.specs.Events.{Event}
+use Rattle.rules.specs.Monitors.{bucketOf}
+use Rattle.rules.specs.Settings.{reversion}
+use Rattle.rules.specs.Selection.{input}
+use Rattle.rules.specs.History.{blockSamples, readyBlocks, ready}
+use Rattle.rules.specs.State.{State, selected, Ready}
+use Rattle.rules.specs.Registers.{fresh}
+use Rattle.rules.specs.Run.{next, run}
+use Rattle.rules.specs.Laws.{Lawful}
+use Rattle.rules.specs.Service.{Provisos, qualifyTicks, fillTicks, selectedTicks, readyTicks, acceptedTicks, Served, Promise}
+use Rattle.rules.proofs.Tests.{is-between}
+use Rattle.rules.proofs.OneInput.{bucket-works, calm-start}
+use Rattle.rules.proofs.Invariants.{invariants}
+use Rattle.rules.proofs.Progress.{leading, Filled, Serving, Phase, early, waits, serves, phaseOf, Going, going-run}
+
+-- a list run in two parts
+pub run-append : (before after : List Event) (s : State) → run s (before ++ after) ≡ run (run s before) after
+unfolding run
+run-append [] after s = refl
+run-append (e ∷ es) after s = run-append es after (next s e)
+
+pub ticks-append : (after later : List Event) (s : State) → acceptedTicks s (after ++ later) ≡ acceptedTicks s after + acceptedTicks (run s after) later
+unfolding acceptedTicks run
+ticks-append [] later s = omega arith
+ticks-append (e ∷ es) later s = omega (arith, ticks-append es later (next s e))
+
+-- at the deadlines
+module _ (n r k : ℕ) (s : State) (g : Going n r k s) where
+  selected-at : qualifyTicks (bucketOf r) + n ≤ k → selected s ≡ r
+  selected-at h = go (g .phase)
+    where
+      go : phaseOf n r k s → selected s ≡ r
+      go (early l) = omega arith
+      go (waits lo hi u) = omega arith
+      go (serves lo e sv) = e
+
+  ready-at : qualifyTicks (bucketOf r) + n + fillTicks ≤ k → Ready s ≡ true
+  unfolding ready
+  ready-at h = le-leb readyBlocks (length (s .history .kept)) (go (g .phase))
+    where
+      full : Filled (k - (qualifyTicks (bucketOf r) + n)) (s .history) → readyBlocks ≤ length (s .history .kept)
+      full (inl l) = omega (arith, g .lawful .history .open-lt)
+      full (inr l) = l
+
+      far : Serving (k - (qualifyTicks (bucketOf r) + n)) (s .loop) (s .history) → readyBlocks ≤ length (s .history .kept)
+      far (inl w) = omega (arith, w .1)
+      far (inr w) = full (w .1)
+
+      go : phaseOf n r k s → readyBlocks ≤ length (s .history .kept)
+      go (early l) = omega arith
+      go (waits lo hi u) = omega arith
+      go (serves lo e sv) = far sv
+
+-- from any lawful state at the moment
+served-from : (s : State) (after later : List Event) (r : ℕ) → Lawful s → Provisos r s (after ++ later) → Served r s after (run s (after ++ later))
+served-from s after later r w p =
+    record { selected-is = λ h. selected-at n r K now going (omega (arith, more)); ready-is = λ h. ready-at n r K now going (omega (arith, more)) }
+  where
+    n : ℕ
+    n = reversion (s .settings)
+
+    now : State
+    now = run s (after ++ later)
+
+    K : ℕ
+    K = acceptedTicks s (after ++ later) + 0
+
+    more : acceptedTicks s (after ++ later) ≡ acceptedTicks s after + acceptedTicks (run s after) later
+    more = ticks-append after later s
+
+    ref : isInput r ≡ true
+    ref = is-between 1 8 r (p .low) (p .high)
+
+    start : Going n r 0 s
+    start =
+        record {
+          auto = eq-eqb (s .settings 0x40) 1 (p .automatic);
+          prefer = leading r (s .settings) ref (p .preferred);
+          wait-is = refl;
+          lawful = w;
+          calm = calm-start (bucketOf r) bucket-works (input (s .inputs) r) (w .inputs .each r ref) (p .clear);
+          phase = early (omega arith);
+        }
+
+    going : Going n r K now
+    going = going-run n r ref (after ++ later) 0 s (p .fair) start
+
+-- THE PROMISE OF SERVICE
+pub promise : Promise
+promise before after later r p =
+    rw (run-append before (after ++ later) fresh) (served-from (run fresh before) after later r (invariants before) p)

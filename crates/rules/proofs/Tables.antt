@@ -1,0 +1,53 @@
+-- Tests of every row of a table, and what they say of the map of registers.
+use Prim.Native.Nat.{ℕ, zero, suc, _≤_, _<_}
+use mathlib.Core.Path.{_≡_, refl}
+use mathlib.Core.Bool.{Bool, true, _&&_, and-eq-true-iff}
+use mathlib.Core.List.{List, [], _∷_}
+use native.Mathlib.Omega.{arith}
+use lib.Dec.{leb, eqb}
+use lib.ListN.{getD, List·getD-map}
+use borrow.Author.Tests.{leb-true, eqb-true}
+use Rattle.rules.specs.Registers.{Register, registers, reads, place, register, largest, settingsFrom, freshTable}
+
+-- every element of a list passes a test
+abbrev pub every : {A : Type 0} → (A → Bool) → List A → Bool
+every test [] = true
+every test (x ∷ xs) = test x && every test xs
+
+-- a test that every element and the default pass, the element at each index passes
+pub at-index : {A : Type 0} (test : A → Bool) (l : List A) (d : A) → every test l ≡ true → test d ≡ true → (i : ℕ) → test (getD l i d) ≡ true
+at-index test [] d e f i = f
+at-index test (x ∷ xs) d e f zero = and-eq-true-iff (test x) (every test xs) .0 e .0
+at-index test (x ∷ xs) d e f (suc i) = at-index test xs d (and-eq-true-iff (test x) (every test xs) .0 e .1) f i
+
+-- every number below a bound passes a test
+abbrev pub everyBelow : (ℕ → Bool) → ℕ → Bool
+everyBelow test zero = true
+everyBelow test (suc n) = test 0 && everyBelow (λ k. test (suc k)) n
+
+-- a test that every number below a bound passes, each passes
+pub at-below : (test : ℕ → Bool) (n : ℕ) → everyBelow test n ≡ true → (k : ℕ) → k < n → test k ≡ true
+at-below test zero e k h = absurd (omega arith)
+at-below test (suc n) e zero h = and-eq-true-iff (test 0) (everyBelow (λ k. test (suc k)) n) .0 e .0
+at-below test (suc n) e (suc k) h =
+    at-below (λ k. test (suc k)) n (and-eq-true-iff (test 0) (everyBelow (λ k. test (suc k)) n) .0 e .1) k (omega arith)
+
+-- ---- the map of registers
+
+-- the place of each row's address is the row's
+pub place-address : (d : Register) (k : ℕ) → k < 27 → place (getD registers k d .address) ≡ k
+unfolding place registers
+place-address d k h =
+    eqb-true (place (getD registers k d .address)) k (at-below (λ k. eqb (place (getD registers k d .address)) k) 27 refl k h)
+
+-- Largest is a byte
+pub largest-byte : (a : ℕ) → largest a ≤ 255
+unfolding largest register registers
+largest-byte a = leb-true (register a .largest) 255 (at-index (λ (r : Register). leb (r .largest) 255) registers (reads a) refl refl (place a))
+
+-- Fresh is at most Largest
+pub fresh-largest : (a : ℕ) → settingsFrom freshTable a ≤ largest a
+unfolding settingsFrom freshTable largest register registers
+fresh-largest a =
+    rw (List·getD-map (λ (r : Register). r .fresh) registers (place a) (reads a))
+    (leb-true (register a .fresh) (register a .largest) (at-index (λ (r : Register). leb (r .fresh) (r .largest)) registers (reads a) refl refl (place a)))
