@@ -101,7 +101,7 @@ module _ (set : Settings) (inputs : Inputs) where
   pub unqualified : (c : ℕ) → isInput c ≡ true → qualified (input inputs c) ≡ false → candidate set inputs c ≡ false
   unqualified c i q = by-test (candidate set inputs c) (λ e. clash (available-is c (judged-at c i e) .2) q) (λ e. e)
 
--- ---- the best
+  -- ---- the best
 
   -- the same among 1 to k
   abbrev BestBelow : ℕ → ℕ → Type 0

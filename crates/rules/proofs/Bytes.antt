@@ -8,12 +8,14 @@ use Rattle.rules.specs.Pll.{Mode, modeNumber, freeRun, holdover, preLock
 use Rattle.rules.specs.Selection.{input, available}
 use Rattle.rules.specs.History.{held}
 use Rattle.rules.specs.State.{State, mode, Ready}
-use Rattle.rules.specs.Registers.{inMap, readOnly}
+use Rattle.rules.specs.Registers.{inMap, readOnly, fresh}
 use Rattle.rules.specs.Reading.{maskUpTo, countUpTo, qualifiedMask, availableMask, availableCount, hours, stateByte, statusByte, valueByte}
 use Rattle.rules.specs.Reading.{shown, content, Answer, read}
-use Rattle.rules.specs.Laws.{Lawful}
+use Rattle.rules.specs.Run.{run}
+use Rattle.rules.specs.Laws.{Lawful, Bytes}
 use Rattle.rules.proofs.Tests.{if-case, if-le, if-sum}
 use Rattle.rules.proofs.Tables.{largest-byte}
+use Rattle.rules.proofs.Invariants.{invariants}
 
 -- a mask of k inputs has k bits
 mask-lt : (test : ℕ → Bool) (k : ℕ) → maskUpTo test k < 2 ^ k
@@ -105,3 +107,6 @@ content-byte s w a =
 pub read-byte : (s : State) → Lawful s → (a : ℕ) → read s a .byte < 256
 unfolding read
 read-byte s w a = if-case (λ (x : Answer). x .byte < 256) (inMap a) (λ e. omega (arith, content-byte s w a)) (λ e. omega arith)
+
+pub bytes : Bytes
+bytes es a = read-byte (run fresh es) (invariants es) a

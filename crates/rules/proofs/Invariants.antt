@@ -128,8 +128,12 @@ alarm-unqualified : (mask : ℕ) (lock : Bool) (s : State) → SoundInputs (s .i
     → qualified (input (inputsAfter mask lock s) (selected s)) ≡ false
 unfolding inputsAfter qualified lockAlarmed
 alarm-unqualified mask lock s w r a =
-    rw (r, a, input-altered-same lockAlarmed (selected s) (watched mask (s .inputs)) (low 1 8 (selected s) r)
-    (omega (arith, sound-watched mask (s .inputs) w .eight, high 1 8 (selected s) r))) refl
+    rw (
+      r,
+      a,
+      input-altered-same lockAlarmed (selected s) (watched mask (s .inputs)) (low 1 8 (selected s) r)
+          (omega (arith, sound-watched mask (s .inputs) w .eight, high 1 8 (selected s) r)),
+    ) refl
 
 not-selectable : (inputs : Inputs) (r : ℕ) → isTracked r ≡ true → qualified (input inputs r) ≡ false → Selectable inputs r → ⊥
 not-selectable inputs r t q (inl (inl z)) = omega (arith, low 1 8 r t)
@@ -517,6 +521,7 @@ saturation es =
       unlockRun = omega (arith, w .loop .unlock-lt);
       wait = omega (arith, w .loop .wait-lt);
       openSum = λ x small. sum-kept x (run fresh es .history) small (w .history);
+      selectedBits = omega (arith, w .loop .selected-le);
     }
   where
     w : Lawful (run fresh es)

@@ -10,5 +10,8 @@ pub mod Best
 pub mod Chosen
 pub mod Invariants
 pub mod Bytes
+pub mod Sheets
+pub mod Refusals
 pub mod Progress
 pub mod Promise
+pub mod Computing

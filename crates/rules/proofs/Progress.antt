@@ -10,7 +10,7 @@ use lib.IntN.{ℤ, natAbs, _+ℤ_}
 use lib.ListN.{length, take, length-take}
 use borrow.Author.Tests.{eqb-true, eqb-false, leb-true, leb-false, ltb-true, ltb-false, eq-eqb, ne-eqb}
 use Rattle.rules.specs.Words.{if_then_else_, bitOf, isInput, isTracked, isCounted}
-use Rattle.rules.specs.Events.{Event, tick, measurement, hit, write, sampleLimit}
+use Rattle.rules.specs.Events.{Event, tick, measurement, hit, write, isTick}
 use Rattle.rules.specs.Monitors.{bucketOf, Input, monitored, measured, unsoaked, lockAlarmed, qualified}
 use Rattle.rules.specs.Pll.{Mode, locked, is, modeNumber, Loop, lockTicks, looped, alarmDue}
 use Rattle.rules.specs.Settings.{Settings, policy, automatic, reject, qualification, priority, usable, revertive, ahead, reversion}
@@ -21,7 +21,7 @@ use Rattle.rules.specs.Tick.{watched, loopAfter, inputsAfter, steps1to4,
 use Rattle.rules.specs.Refusals.{refusal, accepted}
 use Rattle.rules.specs.Run.{afterMeasurement, afterHit, effect, next, run}
 use Rattle.rules.specs.Laws.{SoundInputs, Lawful}
-use Rattle.rules.specs.Service.{AheadOfInput, AheadOfFreeRun, Revertive, Preferred, Fair, AllFair, qualifyTicks, isTick, acceptedTicks}
+use Rattle.rules.specs.Service.{AheadOfInput, AheadOfFreeRun, Revertive, Preferred, Fair, AllFair, qualifyTicks, acceptedTicks}
 use Rattle.rules.proofs.Tests.{if-case, by-test, clash, and-false, and-left, and-right, low, high, is-between, zero-if}
 use Rattle.rules.proofs.EightInputs.{input-each, input-altered-other, input-altered-same}
 use Rattle.rules.proofs.OneInput.{bucket-works, Calm, calm-tick, calm-qualified, calm-measured}

@@ -1,6 +1,6 @@
 -- Document 01, "Events".
 use Prim.Native.Nat.{ℕ}
-use mathlib.Core.Bool.{Bool}
+use mathlib.Core.Bool.{Bool, true, false}
 use lib.IntN.{ℤ}
 
 pub data Event : Type 0 where
@@ -16,3 +16,9 @@ pub data Event : Type 0 where
 -- "sample .. −125,000,000 to 125,000,000"
 abbrev pub sampleLimit : ℕ
 sampleLimit = 125_000_000
+
+abbrev pub isTick : Event → Bool
+isTick (tick mask lock x) = true
+isTick (measurement i offset) = false
+isTick hit = false
+isTick (write a v) = false

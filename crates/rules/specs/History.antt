@@ -1,5 +1,5 @@
 -- Document 01, "History (step 5)": the holdover history and its commands.
-use Prim.Native.Nat.{ℕ, _+_, _*_, min}
+use Prim.Native.Nat.{ℕ, _+_, _-_, _*_, min}
 use mathlib.Core.Bool.{Bool, true, false, not, _&&_}
 use mathlib.Core.List.{List, [], _∷_}
 use lib.Dec.{leb, eqb}
@@ -58,8 +58,8 @@ abbrev pub sumLimit : ℕ
 sumLimit = 16_000_000_000
 
 unfoldable pub saturated : ℤ → ℤ
-saturated (pos n) = pos (min 16_000_000_000 n)
-saturated (negsuc n) = negsuc (min 15_999_999_999 n)
+saturated (pos n) = pos (min sumLimit n)
+saturated (negsuc n) = negsuc (min (sumLimit - 1) n)
 
 -- the sample joins the open block, and completes it as its 128th
 unfoldable pub sampled : ℤ → History → History

@@ -1,25 +1,27 @@
 -- What holds in every state that events lead to from a fresh unit, and other laws of the rules, as statements. Their proofs stand in proofs/ under the same names.
-use Prim.Native.Nat.{ℕ, _+_, _-_, _*_, _/_, _≤_, _<_, min}
+use Prim.Native.Nat.{ℕ, _+_, _-_, _*_, _/_, _%_, _≤_, _<_, min}
 use mathlib.Core.Path.{_≡_}
 use mathlib.Core.Logic.{_⊎_}
-use mathlib.Core.Bool.{Bool, true, false}
+use mathlib.Core.Bool.{Bool, true, false, _&&_}
 use mathlib.Core.List.{List, [], _∷_}
 use lib.IntN.{ℤ, pos, natAbs, _+ℤ_, _*ℤ_}
 use lib.Signed.{_≤ℤ_}
 use lib.ListN.{length}
-use Rattle.rules.specs.Words.{isInput, isTracked}
-use Rattle.rules.specs.Events.{Event, sampleLimit}
+use Rattle.rules.specs.Words.{if_then_else_, isInput, isTracked}
+use Rattle.rules.specs.Events.{Event, sampleLimit, isTick}
 use Rattle.rules.specs.Monitors.{Bucket, bucketOf, Input, fullSoak, alarmTicks}
-use Rattle.rules.specs.Pll.{modeNumber, holdover, Loop, lockTicks, unlockTicks}
+use Rattle.rules.specs.Pll.{modeNumber, holdover, is, Loop, lockTicks, unlockTicks}
 use Rattle.rules.specs.Settings.{Settings, reject, qualification, usable, ahead, delayTicks}
 use Rattle.rules.specs.Selection.{Inputs, input, Choice, available, candidate, best, waitLimit}
 use Rattle.rules.specs.History.{History, blockSamples, keptBlocks, readyBlocks, ready, sumLimit, saturated, sumOf, value}
 use Rattle.rules.specs.State.{State, selected, mode}
 use Rattle.rules.specs.Tick.{holdingLimit}
 use Rattle.rules.specs.Registers.{largest, fresh}
-use Rattle.rules.specs.Reading.{Answer, read}
+use Rattle.rules.specs.Reading.{hours, twos, Answer, read}
 use Rattle.rules.specs.Refusals.{accepted}
 use Rattle.rules.specs.Run.{next, run}
+use Rattle.rules.specs.Sheet.{signedWord, recordCount, check, front, outputAfter}
+use Rattle.rules.specs.Printout.{decimal}
 
 -- ---- invariants
 
@@ -84,20 +86,30 @@ pub record Lawful (s : State) : Type 0 where
 abbrev pub Invariants : Type 0
 Invariants = (es : List Event) → Lawful (run fresh es)
 
--- ---- a bound that stands in a rule and not in document 01 never changes anything, from fresh
+-- ---- a bound that stands in a rule and not in document 01 never shows, from fresh
 
 pub record Unsaturated (s : State) : Type 0 where
   pub unlockRun : min unlockTicks (s .loop .unlockRun + 1) ≡ s .loop .unlockRun + 1
   pub wait : min waitLimit (s .choice .wait + 1) ≡ s .choice .wait + 1
   pub openSum : (x : ℤ) → natAbs x ≤ sampleLimit → saturated (s .history .openSum +ℤ x) ≡ s .history .openSum +ℤ x
+  pub selectedBits : selected s % 16 ≡ selected s
 
 abbrev pub Saturation : Type 0
 Saturation = (es : List Event) → Unsaturated (run fresh es)
 
--- The count of ticks in Holdover stops at 255 hours: what it holds after n ticks shows the hours that n shows, and one tick more keeps that so.
-pub record HoursCount : Type 0 where
-  pub shows : (n : ℕ) → min 255 (min holdingLimit n / 28_125) ≡ min 255 (n / 28_125)
-  pub steps : (n : ℕ) → min holdingLimit (min holdingLimit n + 1) ≡ min holdingLimit (n + 1)
+-- the ticks in Holdover after the entering event, with no bound: n of them in state s, then those of a list of events
+unfoldable pub heldAfter : ℕ → State → Event → ℕ
+heldAfter n s e =
+    if is holdover (mode s) && is holdover (mode (next s e)) then (if isTick e && accepted s e then n + 1 else n)
+    else 0
+
+unfoldable pub heldTicks : ℕ → State → List Event → ℕ
+heldTicks n s [] = n
+heldTicks n s (e ∷ es) = heldTicks (heldAfter n s e) (next s e) es
+
+-- 0x27 shows the hours of that count
+abbrev pub Hours : Type 0
+Hours = (es : List Event) → hours (run fresh es) ≡ (if is holdover (mode (run fresh es)) then min 255 (heldTicks 0 fresh es / 28_125) else 0)
 
 -- ---- selection
 
@@ -137,6 +149,10 @@ Value = (h : History) → 1 ≤ length (h .kept) → Floor (sumOf (h .kept)) (bl
 abbrev pub ValueRange : Type 0
 ValueRange = (h : History) → 1 ≤ length (h .kept) → Within (h .kept) → natAbs (value h) ≤ sampleLimit
 
+-- and its 32 bits read back as it is
+abbrev pub TwosComplement : Type 0
+TwosComplement = (z : ℤ) → natAbs z ≤ sampleLimit → signedWord (twos z) ≡ z
+
 -- a fresh unit is not Ready
 abbrev pub NotReady : Type 0
 NotReady = ready (fresh .history) ≡ false
@@ -150,3 +166,26 @@ Refused = (s : State) (e : Event) → accepted s e ≡ false → next s e ≡ s
 -- each register is a byte
 abbrev pub Bytes : Type 0
 Bytes = (es : List Event) (a : ℕ) → read (run fresh es) a .byte < 256
+
+-- ---- run sheets
+
+-- a sheet that runs writes 4 bytes a record, within the output, and leaves the output's length
+pub record Fits (s output : List ℕ) : Type 0 where
+  pub written : length (front s (length output)) ≡ 4 * recordCount s
+  pub within : 4 * recordCount s ≤ length output
+  pub kept : length (outputAfter s output) ≡ length output
+
+abbrev pub Outputs : Type 0
+Outputs = (s output : List ℕ) → check s (length output) ≡ 0 → Fits s output
+
+-- a sheet that is refused leaves the output as it was
+abbrev pub OutputKept : Type 0
+OutputKept = (s output : List ℕ) → (check s (length output) ≡ 0 → ⊥) → outputAfter s output ≡ output
+
+-- the digits of a number read back as it is
+unfoldable pub number : ℕ → List ℕ → ℕ
+number n [] = n
+number n (d ∷ ds) = number (10 * n + (d - 48)) ds
+
+abbrev pub Decimal : Type 0
+Decimal = (n : ℕ) → number 0 (decimal n) ≡ n

@@ -1,5 +1,7 @@
 -- Document 01, "Run sheet and rack program": the text that the rack program prints for a sheet, byte by byte.
 use Prim.Native.Nat.{ℕ, zero, suc, _+_, _*_, _/_, _%_}
+use Prim.Native.Char.{code}
+use Prim.Native.String.{String, [] as end, _∷_ as _then_}
 use mathlib.Core.Bool.{Bool, true, false}
 use mathlib.Core.List.{List, [], _∷_, _++_}
 use lib.Dec.{ltb, eqb}
@@ -8,6 +10,11 @@ use Rattle.rules.specs.Words.{if_then_else_}
 use Rattle.rules.specs.Sheet.{check, recordCount, front}
 
 -- ---- ASCII
+
+-- the bytes of a text
+abbrev pub ascii : String → List ℕ
+ascii end = []
+ascii (c then s) = code c ∷ ascii s
 
 abbrev pub blank : ℕ
 blank = 32
@@ -31,12 +38,11 @@ decimal n = decimalIn (n + 1) n
 unfoldable pub hexadecimal : ℕ → List ℕ
 hexadecimal n = digit (n / 16 % 16) ∷ digit (n % 16) ∷ []
 
--- `records ` and `refused `
 unfoldable pub recordsWord : List ℕ
-recordsWord = 114 ∷ 101 ∷ 99 ∷ 111 ∷ 114 ∷ 100 ∷ 115 ∷ blank ∷ []
+recordsWord = ascii "records "
 
 unfoldable pub refusedWord : List ℕ
-refusedWord = 114 ∷ 101 ∷ 102 ∷ 117 ∷ 115 ∷ 101 ∷ 100 ∷ blank ∷ []
+refusedWord = ascii "refused "
 
 -- ---- lines
 

@@ -6,7 +6,7 @@ use mathlib.Core.Bool.{Bool, true, false, _&&_}
 use mathlib.Core.List.{List, [], _∷_, _++_}
 use lib.IntN.{natAbs}
 use Rattle.rules.specs.Words.{if_then_else_, bit, bitOf}
-use Rattle.rules.specs.Events.{Event, tick, measurement, hit, write}
+use Rattle.rules.specs.Events.{Event, tick, measurement, hit, write, isTick}
 use Rattle.rules.specs.Monitors.{Bucket, bucketOf, fullSoak, alarmTicks}
 use Rattle.rules.specs.Pll.{lockTicks}
 use Rattle.rules.specs.Settings.{Settings, priority, revertive, qualification, reversion}
@@ -100,12 +100,6 @@ abbrev pub readyTicks : ℕ → State → ℕ
 readyTicks r s = selectedTicks r s + fillTicks
 
 -- how many accepted ticks a list has
-abbrev pub isTick : Event → Bool
-isTick (tick mask lock x) = true
-isTick (measurement i offset) = false
-isTick hit = false
-isTick (write a v) = false
-
 unfoldable pub acceptedTicks : State → List Event → ℕ
 acceptedTicks s [] = 0
 acceptedTicks s (e ∷ es) = (if isTick e && accepted s e then 1 else 0) + acceptedTicks (next s e) es

@@ -1,0 +1,44 @@
+-- `unfolding computing` opens every definition of the rules, so that histories and sheets run by computation. The names stand here and nowhere else.
+use Prim.Native.Nat.{ℕ}
+use Rattle.rules.specs.Words
+use Rattle.rules.specs.Monitors
+use Rattle.rules.specs.Pll
+use Rattle.rules.specs.Settings
+use Rattle.rules.specs.Selection
+use Rattle.rules.specs.History
+use Rattle.rules.specs.Tick
+use Rattle.rules.specs.Registers
+use Rattle.rules.specs.Reading
+use Rattle.rules.specs.Refusals
+use Rattle.rules.specs.Run
+use Rattle.rules.specs.Sheet
+use Rattle.rules.specs.Printout
+use Rattle.rules.specs.Service
+
+-- Its value means nothing; what counts is the list under it.
+unfoldable pub computing : ℕ
+unfolding
+    Words.bit
+    Monitors.bucket Monitors.levelAfter Monitors.decayAfter Monitors.alarmAfter Monitors.activityAfter Monitors.good Monitors.soakAfter
+    Monitors.monitored Monitors.qualified Monitors.unsoaked Monitors.lockAlarmed Monitors.frequencyAfter Monitors.measured Monitors.freshInput
+    Pll.modeNumber Pll.unlocked Pll.looped Pll.alarmDue
+    Settings.priority Settings.revertive Settings.usable Settings.ahead Settings.delayTicks
+    Selection.altered Selection.eachFrom Selection.available Selection.candidate Selection.bestUpTo Selection.best Selection.settled
+    Selection.waitAfter Selection.switches Selection.reverted Selection.reselected Selection.manual Selection.chosen Selection.unselectedMode
+    Selection.modeAfter Selection.steered
+    History.ready History.held History.refilled History.withBlocks History.openEmptied History.saturated History.sampled History.withLast
+    History.noted History.recorded History.sumOf History.value History.backedUp History.withCommand History.commanded History.freshHistory
+    Tick.watched Tick.loopAfter Tick.inputsAfter Tick.holdingAfter Tick.steps1to4 Tick.step5 Tick.ticked
+    Registers.registers Registers.place Registers.inMap Registers.register Registers.readOnly Registers.largest Registers.stored Registers.written
+    Registers.settingsFrom Registers.freshFrom Registers.freshTable Registers.fresh
+    Reading.maskUpTo Reading.countUpTo Reading.qualifiedMask Reading.availableMask Reading.availableCount Reading.hours Reading.stateByte
+    Reading.statusByte Reading.twos Reading.valueByte Reading.shown Reading.content Reading.read
+    Refusals.limitsApart Refusals.limitsRefused Refusals.commandRefused Refusals.writeRefusal Refusals.refusal
+    Run.afterMeasurement Run.afterHit Run.afterWrite Run.effect Run.next Run.outcome Run.run
+    Sheet.signed Sheet.tickOf Sheet.measurementOf Sheet.hitOf Sheet.writeOf Sheet.fields Sheet.decode Sheet.settingsCount Sheet.eventsAt
+    Sheet.eventsCount Sheet.sheetEnd Sheet.settingsOf Sheet.before Sheet.eventsOf Sheet.sheetEvents Sheet.isEvent Sheet.allEvents Sheet.recordCount
+    Sheet.check Sheet.recordOf Sheet.records Sheet.front Sheet.outputAfter
+    Printout.digit Printout.decimalIn Printout.decimal Printout.hexadecimal Printout.recordsWord Printout.refusedWord Printout.headLine
+    Printout.recordLine Printout.recordLines Printout.printed
+    Service.acceptedTicks
+computing = 0

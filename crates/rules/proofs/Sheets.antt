@@ -1,0 +1,122 @@
+-- Run sheets: what a run writes, and the digits of a number.
+use Prim.Native.Nat.{ℕ, zero, suc, _+_, _-_, _*_, _/_, _%_, _≤_, _<_}
+use mathlib.Core.Path.{_≡_, refl, sym, ap, _∙_}
+use mathlib.Core.Bool.{Bool, true, false, not, _&&_, _||_, false≢true}
+use mathlib.Core.List.{List, [], _∷_, _++_}
+use native.Mathlib.Omega.{arith}
+use lib.Dec.{ltb, eqb}
+use lib.ListN.{length, drop, length-append, length-drop}
+use borrow.Author.Tests.{ltb-true, ltb-false, lt-ltb, eq-eqb, ne-eqb}
+use Rattle.rules.specs.Words.{if_then_else_}
+use Rattle.rules.specs.Events.{Event}
+use Rattle.rules.specs.State.{State}
+use Rattle.rules.specs.Registers.{fresh}
+use Rattle.rules.specs.Run.{Outcome, outcome}
+use Rattle.rules.specs.Sheet.{Decoded, event, bad, decode, settingsCount, eventsAt, eventsCount, sheetEnd, settingsOf, before, eventsOf, sheetEvents, isEvent, allEvents, recordCount, check, recordOf, records, front, outputAfter}
+use Rattle.rules.specs.Printout.{digit, decimalIn, decimal}
+use Rattle.rules.specs.Laws.{Fits, Outputs, OutputKept, number, Decimal}
+use Rattle.rules.proofs.Tests.{by-test, and-left, and-right}
+
+-- ---- the output
+
+length-settings : (k : ℕ) (l : List ℕ) → length (settingsOf k l) ≡ k
+unfolding settingsOf
+length-settings zero l = refl
+length-settings (suc k) l = ap suc (length-settings k (drop 2 l))
+
+-- where each is an event, there are as many as the count says
+length-before : (d : Decoded) (es : List Event) → isEvent d ≡ true → length (before d es) ≡ suc (length es)
+unfolding before isEvent
+length-before (event e) es t = refl
+length-before bad es t = absurd (false≢true t)
+
+length-events : (k : ℕ) (l : List ℕ) → allEvents k l ≡ true → length (eventsOf k l) ≡ k
+unfolding eventsOf allEvents
+length-events zero l e = refl
+length-events (suc k) l e =
+    length-before (decode l) (eventsOf k (drop 8 l)) (and-left (isEvent (decode l)) (allEvents k (drop 8 l)) e)
+    ∙ ap suc (length-events k (drop 8 l) (and-right (isEvent (decode l)) (allEvents k (drop 8 l)) e))
+
+length-records : (s : State) (es : List Event) → length (records s es) ≡ 4 * length es
+unfolding records recordOf
+length-records s [] = refl
+length-records s (e ∷ es) = omega (arith, length-records (outcome s e .state) es)
+
+-- what a sheet that runs has passed
+record Passed (s : List ℕ) (room : ℕ) : Type 0 where
+  events : allEvents (eventsCount s) (drop (eventsAt s + 2) s) ≡ true
+  fits : 4 * recordCount s ≤ room
+
+passed : (s : List ℕ) (room : ℕ) → check s room ≡ 0 → Passed s room
+unfolding check
+passed s room =
+    go (ltb 65_535 (length s) || ltb 256 (settingsCount s)) (ltb (length s) (sheetEnd s)) (ltb (sheetEnd s) (length s)) good refl (ltb room (4 * recordCount s)) refl
+  where
+    good : Bool
+    good = allEvents (eventsCount s) (drop (eventsAt s + 2) s)
+
+    no : ⊥ → Passed s room
+    no x = absurd x
+
+    go : (a b c d : Bool) → good ≡ d → (f : Bool) → ltb room (4 * recordCount s) ≡ f
+        → _≡_ {A = ℕ} (if a then 9 else (if b then 10 else (if c then 11 else (if not d then 12 else (if f then 13 else 0))))) 0 → Passed s room
+    go true b c d ed f ef e = no (omega arith)
+    go false true c d ed f ef e = no (omega arith)
+    go false false true d ed f ef e = no (omega arith)
+    go false false false false ed f ef e = no (omega arith)
+    go false false false true ed true ef e = no (omega arith)
+    go false false false true ed false ef e = record { events = ed; fits = ltb-false room (4 * recordCount s) ef }
+
+length-sheet : (s : List ℕ) → allEvents (eventsCount s) (drop (eventsAt s + 2) s) ≡ true → length (sheetEvents s) ≡ recordCount s
+unfolding sheetEvents recordCount
+length-sheet s e =
+    length-append (settingsOf (settingsCount s) (drop 2 s)) (eventsOf (eventsCount s) (drop (eventsAt s + 2) s))
+    ∙ omega (arith, length-settings (settingsCount s) (drop 2 s), length-events (eventsCount s) (drop (eventsAt s + 2) s) e)
+
+pub outputs : Outputs
+unfolding front outputAfter
+outputs s output e =
+    record {
+      written = front-length;
+      within = ok .fits;
+      kept = length-append (front s (length output)) (drop (length (front s (length output))) output)
+          ∙ omega (arith, length-drop (length (front s (length output))) output, front-length, ok .fits);
+    }
+  where
+    ok : Passed s (length output)
+    ok = passed s (length output) e
+
+    front-length : length (front s (length output)) ≡ 4 * recordCount s
+    front-length = rw (eq-eqb (check s (length output)) 0 e) (length-records fresh (sheetEvents s) ∙ ap (λ n. 4 * n) (length-sheet s (ok .events)))
+
+pub output-kept : OutputKept
+unfolding front outputAfter
+output-kept s output n = rw (ne-eqb (check s (length output)) 0 n) refl
+
+-- ---- digits
+
+-- one digit more at the end
+number-snoc : (n : ℕ) (ds : List ℕ) (d : ℕ) → number n (ds ++ d ∷ []) ≡ 10 * number n ds + (d - 48)
+unfolding number
+number-snoc n [] d = refl
+number-snoc n (x ∷ ds) d = number-snoc (10 * n + (x - 48)) ds d
+
+digit-value : (d : ℕ) → d < 10 → digit d - 48 ≡ d
+unfolding digit
+digit-value d h = rw (lt-ltb d 10 h) (omega arith)
+
+decimal-in : (fuel n : ℕ) → n < fuel → number 0 (decimalIn fuel n) ≡ n
+unfolding decimalIn number
+decimal-in zero n h = omega arith
+decimal-in (suc fuel) n h = go (ltb n 10) refl (decimal-in fuel (n / 10))
+  where
+    go : (b : Bool) → ltb n 10 ≡ b → (n / 10 < fuel → number 0 (decimalIn fuel (n / 10)) ≡ n / 10)
+        → number 0 (elim b as (λ x. List ℕ) [ true ↦ digit n ∷ [] | false ↦ decimalIn fuel (n / 10) ++ digit (n % 10) ∷ [] ]) ≡ n
+    go true t ih = omega (arith, digit-value n (ltb-true n 10 t))
+    go false t ih =
+        number-snoc 0 (decimalIn fuel (n / 10)) (digit (n % 10))
+        ∙ omega (arith, ih (omega (arith, ltb-false n 10 t)), digit-value (n % 10) (omega arith))
+
+pub decimal-digits : Decimal
+unfolding decimal
+decimal-digits n = decimal-in (n + 1) n (omega arith)
