@@ -5,7 +5,7 @@ use mathlib.Core.List.{List, [], _∷_, _++_}
 use lib.ListN.{take, replicate}
 use Rattle.rules.specs.Sheet.{check, front, outputAfter}
 use Rattle.rules.specs.Printout.{ascii, printed}
-use Rattle.cases.specs.Table.{Row, _is_, Holds}
+use Rattle.rules.specs.Table.{Row, _is_, Holds}
 
 -- "Sheet 01 00 40 01 02 00, eight 00, 02, seven 00": one setting, 0x40 = 1, and two events, a tick and a Hit
 abbrev pub sheet : List ℕ

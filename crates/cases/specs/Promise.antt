@@ -6,13 +6,13 @@ use mathlib.Core.List.{List, [], _∷_, _++_}
 use lib.IntN.{pos}
 use lib.ListN.{replicate}
 use Rattle.rules.specs.Events.{Event, tick, measurement, write}
-use Rattle.rules.specs.Monitors.{bucket, alarmTicks}
+use Rattle.rules.specs.Monitors.{alarmTicks}
 use Rattle.rules.specs.Selection.{input}
 use Rattle.rules.specs.State.{State, selected, Ready}
 use Rattle.rules.specs.Registers.{fresh}
 use Rattle.rules.specs.Run.{run}
-use Rattle.rules.specs.Service.{Provisos, qualifyTicks, fillTicks, selectedTicks, readyTicks, acceptedTicks, Served}
-use Rattle.cases.specs.Table.{Row, _is_, Holds}
+use Rattle.rules.specs.Service.{Provisos, selectedTicks, readyTicks, acceptedTicks, Served}
+use Rattle.rules.specs.Table.{Row, _is_, Holds}
 
 -- ---- the history
 
@@ -60,12 +60,6 @@ NotBettered = selected (run fresh (lead ++ ticks (selectedTicks 1 moment - 1))) 
 abbrev pub NotReadyBefore : Type 0
 NotReadyBefore = Ready (run fresh (lead ++ ticks (readyTicks 1 moment - 1))) ≡ false
 
--- the promise's numbers; here n is 469
+-- the promise's numbers here, with n = 469
 abbrev pub Numbers : Type 0
-Numbers =
-    Holds
-    (qualifyTicks bucket is 860
-    ∷ fillTicks is 5519
-    ∷ selectedTicks 1 moment is (860 + 469)
-    ∷ readyTicks 1 moment is (6379 + 469)
-    ∷ [])
+Numbers = Holds (selectedTicks 1 moment is (860 + 469) ∷ readyTicks 1 moment is (6379 + 469) ∷ [])

@@ -13,7 +13,7 @@ use Rattle.rules.specs.Registers.{fresh}
 use Rattle.rules.specs.Reading.{read}
 use Rattle.rules.specs.Refusals.{refusal}
 use Rattle.rules.specs.Run.{run}
-use Rattle.cases.specs.Table.{Row, _is_, Holds}
+use Rattle.rules.specs.Table.{Row, _is_, Holds}
 
 -- ---- the words of the table
 

@@ -168,16 +168,14 @@ module _ (set : Settings) (inputs : Inputs) where
       and-cases true y e = inr e
       and-cases false y e = inl refl
 
+  -- there is no candidate past 9
+  best-among : (k b : ℕ) → 9 ≤ k → BestBelow k b → BestOf set inputs b
+  best-among k b h (inl n) = inl (n .0, λ c. by-test (candidate set inputs c) (λ e. clash e (n .1 c (omega (arith, candidate-number c e .1)))) (λ e. e))
+  best-among k b h (inr w) = inr (w .0, λ c e. w .1 c (omega (arith, candidate-number c e .1)) e)
+
   pub best-of : BestOf set inputs (best set inputs)
   unfolding best
-  best-of = go (best-below 9)
-    where
-      in-range : {P : Type 0} (c : ℕ) → candidate set inputs c ≡ true → (c ≤ 9 → P) → P
-      in-range c e f = f (candidate-number c e .1)
-
-      go : BestBelow 9 (bestUpTo set inputs 9) → BestOf set inputs (bestUpTo set inputs 9)
-      go (inl n) = inl (n .0, λ c. by-test (candidate set inputs c) (λ e. clash e (in-range c e (n .1 c))) (λ e. e))
-      go (inr w) = inr (w .0, λ c e. in-range c e (λ l. w .1 c l e))
+  best-of = best-among _ _ (omega arith) (best-below _)
 
   -- a candidate that is ahead of every other is the best
   pub best-is : (r : ℕ) → candidate set inputs r ≡ true → ((c : ℕ) → candidate set inputs c ≡ true → (c ≡ r → ⊥) → ahead set r c ≡ true) → best set inputs ≡ r

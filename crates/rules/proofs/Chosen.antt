@@ -5,20 +5,16 @@ use mathlib.Core.Logic.{_⊎_, inl, inr}
 use mathlib.Core.Bool.{Bool, true, false, not, _&&_, _||_}
 use native.Mathlib.Omega.{arith}
 use lib.Dec.{leb, eqb}
-use borrow.Author.Tests.{eqb-true, eqb-false, leb-false, eq-eqb, not-false, not-true}
+use borrow.Author.Tests.{eqb-true, eqb-false, leb-true, leb-false, eq-eqb, ne-eqb, not-false, not-true}
 use Rattle.rules.specs.Words.{if_then_else_, isInput}
 use Rattle.rules.specs.Monitors.{qualified}
 use Rattle.rules.specs.Settings.{Settings, automatic, opMode, revertive, reversion}
 use Rattle.rules.specs.Selection.{Inputs, input, Choice, candidate, best, settled, waitLimit, waitAfter, switches, reverted, reselected, manual, chosen}
-use Rattle.rules.specs.Laws.{BestOf}
-use Rattle.rules.proofs.Tests.{if-case, by-test, clash, and-left, and-right, low, high}
+use Rattle.rules.specs.Laws.{BestOf, Selectable, Selected, NonRevertive, WaitRule}
+use Rattle.rules.proofs.Tests.{if-case, by-test, clash, and-left, and-right, or-true, high}
 use Rattle.rules.proofs.Best.{available-is, candidate-is, candidate-number, best-of}
 
 -- ---- every choice
-
--- what may be selected: none, Free Run, or a qualified reference
-abbrev pub Selectable : Inputs → ℕ → Type 0
-Selectable inputs c = ((c ≡ 0) ⊎ (c ≡ 9)) ⊎ ((isInput c ≡ true) × (qualified (input inputs c) ≡ true))
 
 -- the wait goes on: another candidate than the best stays selected
 abbrev pub waiting : ℕ → Choice → Choice
@@ -60,15 +56,20 @@ module _ (set : Settings) (inputs : Inputs) (c : Choice) where
       here : not (candidate set inputs (c .selected)) ≡ false → Selectable inputs (c .selected)
       here n = candidate-selectable (c .selected) (is-candidate n)
 
-  pub chosen-selectable : Selectable inputs (chosen set inputs c .selected)
-  unfolding settled
-  chosen-selectable = chosen-case (λ d. Selectable inputs (d .selected)) (λ x s. s) (λ e w. candidate-selectable (c .selected) e)
-
   -- Op_Mode 0 in manual selects none
   pub manual-none : (not (automatic set) && eqb (opMode set) 0) ≡ true → chosen set inputs c .selected ≡ 0
   unfolding chosen manual settled
   manual-none e =
       rw (not-true (automatic set) (and-left (not (automatic set)) (eqb (opMode set) 0) e), eqb-true (opMode set) 0 (and-right (not (automatic set)) (eqb (opMode set) 0) e)) refl
+
+pub chosen-selectable : Selected
+unfolding settled
+chosen-selectable set inputs c = chosen-case set inputs c (λ d. Selectable inputs (d .selected)) (λ x s. s) (λ e w. candidate-selectable set inputs c (c .selected) e)
+
+pub non-revertive : NonRevertive
+unfolding chosen reselected
+non-revertive set inputs c a e v =
+    rw (a, e, v) (if-case (λ d. d ≡ settled (c .selected)) (eqb (c .selected) (best set inputs)) (λ z. refl) (λ z. refl))
 
 -- a number that may be selected is at most 9
 pub selectable-le : (inputs : Inputs) (c : ℕ) → Selectable inputs c → c ≤ 9
@@ -122,3 +123,12 @@ pub wait-more : (r : ℕ) (c : Choice) → c .wait < waitLimit → c .waitFor �
 unfolding waitAfter
 wait-more r c l e =
     by-test (eqb (c .wait) 0) (λ z. rw z (omega (arith, eqb-true (c .wait) 0 z))) (λ z. rw (z, e, eq-eqb r r refl) (omega arith))
+
+pub wait-rule : WaitRule
+unfolding waitAfter reverted switches settled
+wait-rule = record { anew = λ b c ne. rw (ne-eqb (c .waitFor) b ne) (rw (or-true (eqb (c .wait) 0)) refl); full = full }
+  where
+    full : (n b : ℕ) (c : Choice) → (c .selected ≡ b → ⊥) → reverted n b c .selected ≡ b → n < waitAfter b c
+    full n b c ne =
+        if-case (λ (d : Choice). d .selected ≡ b → n < waitAfter b c) (leb n (waitAfter b c - 1))
+        (λ e z. omega (arith, leb-true n (waitAfter b c - 1) e, wait-one b c)) (λ e z. absurd (ne z))

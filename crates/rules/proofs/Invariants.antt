@@ -21,14 +21,14 @@ use Rattle.rules.specs.Tick.{watched, loopAfter, inputsAfter, holdingLim
 use Rattle.rules.specs.Registers.{place, inMap, registers, register, readOnly, largest, stored, written, settingsFrom, freshFrom, freshTable, fresh}
 use Rattle.rules.specs.Refusals.{limitsApart, limitsRefused, commandRefused, writeRefusal, refusal, accepted}
 use Rattle.rules.specs.Run.{afterMeasurement, afterHit, afterWrite, effect, next, run}
-use Rattle.rules.specs.Laws.{SoundInput, SoundInputs, SoundSettings, SoundLoop, Within, SoundBlocks, SoundHistory, Lawful, Invariants, Unsaturated, Saturation}
-use Rattle.rules.proofs.Tests.{if-case, by-test, clash, and-left, and-right, and-false, or-true, or-false, low, high, is-between, zero-if}
+use Rattle.rules.specs.Laws.{Selectable, SoundInput, SoundInputs, SoundSettings, SoundLoop, Within, SoundBlocks, SoundHistory, Lawful, Invariants, Unsaturated, Saturation}
+use Rattle.rules.proofs.Tests.{if-case, by-test, clash, and-left, and-right, and-false, or-true, or-false, low, high, is-between, unrefused, zero-if}
 use Rattle.rules.proofs.Integers.{natAbs-+, saturated-within}
 use Rattle.rules.proofs.Tables.{fresh-largest}
 use Rattle.rules.proofs.EightInputs.{length-each, length-altered, input-each, input-altered-same, kept-by-altered}
 use Rattle.rules.proofs.OneInput.{bucket-works, sound-monitored, sound-measured, sound-alarmed, sound-unsoaked, sound-fresh}
 use Rattle.rules.proofs.Best.{candidate-number}
-use Rattle.rules.proofs.Chosen.{Selectable, waiting, chosen-case, chosen-selectable, manual-none, selectable-le, wait-one}
+use Rattle.rules.proofs.Chosen.{waiting, chosen-case, chosen-selectable, manual-none, selectable-le, wait-one}
 
 -- ---- inputs
 
@@ -356,16 +356,12 @@ pub record WriteAllowed (s : State) (a v : ℕ) : Type 0 where
 
 pub write-allowed : (s : State) (a v : ℕ) → accepted s (write a v) ≡ true → WriteAllowed s a v
 unfolding refusal writeRefusal
-write-allowed s a v = go (inMap a) (readOnly a) (ltb (largest a) v) refl (limitsRefused s a v) refl (eqb a 0x26 && commandRefused s v) refl
-  where
-    go : (m r t : Bool) → ltb (largest a) v ≡ t → (l : Bool) → limitsRefused s a v ≡ l → (c : Bool) → (eqb a 0x26 && commandRefused s v) ≡ c
-        → eqb (if not m then 1 else (if r then 2 else (if t then 3 else (if l then 4 else (if c then 8 else 0))))) 0 ≡ true → WriteAllowed s a v
-    go false r t et l el c ec e = absurd (false≢true e)
-    go true true t et l el c ec e = absurd (false≢true e)
-    go true false true et l el c ec e = absurd (false≢true e)
-    go true false false et true el c ec e = absurd (false≢true e)
-    go true false false et false el true ec e = absurd (false≢true e)
-    go true false false et false el false ec e = record { small = ltb-false (largest a) v et; limits = el; command = ec }
+write-allowed s a v e =
+    let first = unrefused (not (inMap a)) 0 _ (eqb-true (writeRefusal s a v) 0 e) in
+    let second = unrefused (readOnly a) 1 _ (first .1) in
+    let third = unrefused _ 2 _ (second .1) in
+    let fourth = unrefused _ 3 _ (third .1) in
+    record { small = ltb-false (largest a) v (third .0); limits = fourth .0; command = unrefused _ 7 0 (fourth .1) .0 }
 
 stored-le : (a v : ℕ) → stored a v ≤ v
 unfolding stored

@@ -1,4 +1,6 @@
 -- The laws of the rules and the promise of service, proved. Each file proves statements of specs/ or what they need.
+pub mod Computing
+pub mod Avoided
 pub mod Tests
 pub mod Integers
 pub mod Tables
@@ -14,4 +16,3 @@ pub mod Sheets
 pub mod Refusals
 pub mod Progress
 pub mod Promise
-pub mod Computing

@@ -132,6 +132,12 @@ module _ (b : Bucket) (works : Working b) where
   unfolding good
   good-is a f r x y z = rw (x, y, z) refl
 
+  -- a good tick fills the soak by one; a is the tick from which on all are good
+  soak-rises : (k a n : ℕ) → 1 ≤ a → n ≤ fullSoak → min k (fullSoak - 1 + a) ≤ n + (a - 1)
+      → min (suc k) (fullSoak - 1 + a) ≤ soakAfter true n + (a - 1)
+  unfolding soakAfter
+  soak-rises k a n l h c = omega arith
+
   -- one regular tick
   pub calm-tick : (k : ℕ) (i : Input) → SoundInput b i → Calm b k i → Calm b (suc k) (monitored b false i)
   unfolding monitored activityAfter soakAfter
@@ -142,8 +148,8 @@ module _ (b : Bucket) (works : Working b) where
         quiet = quiet;
         released = omega (arith, c .released);
         soaking =
-            if-case (λ n. min (suc k) (qualifyTicks b) ≤ n + (settleTicks b - 1)) isGood
-            (λ e. omega (arith, c .soaking, s .soak-le)) (λ e. by-test (leb (settleTicks b) (suc k)) (λ t. clash (settled t) e) (λ t. omega (arith, leb-false (settleTicks b) (suc k) t)));
+            by-test isGood (λ e. rw e (soak-rises k (settleTicks b) (i .soak) (omega arith) (s .soak-le) (c .soaking)))
+            (λ e. by-test (leb (settleTicks b) (suc k)) (λ t. clash (settled t) e) (λ t. rw e (omega (arith, leb-false (settleTicks b) (suc k) t))));
       }
     where
       l : ℕ

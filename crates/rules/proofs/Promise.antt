@@ -10,7 +10,7 @@ use lib.ListN.{length}
 use borrow.Author.Tests.{le-leb, eq-eqb}
 use Rattle.rules.specs.Words.{isInput}
 use Rattle.rules.specs.Events.{Event}
-use Rattle.rules.specs.Monitors.{bucketOf}
+use Rattle.rules.specs.Monitors.{bucket, bucketOf}
 use Rattle.rules.specs.Settings.{reversion}
 use Rattle.rules.specs.Selection.{input}
 use Rattle.rules.specs.History.{blockSamples, readyBlocks, ready}
@@ -18,7 +18,7 @@ use Rattle.rules.specs.State.{State, selected, Ready}
 use Rattle.rules.specs.Registers.{fresh}
 use Rattle.rules.specs.Run.{next, run}
 use Rattle.rules.specs.Laws.{Lawful}
-use Rattle.rules.specs.Service.{Provisos, qualifyTicks, fillTicks, selectedTicks, readyTicks, acceptedTicks, Served, Promise}
+use Rattle.rules.specs.Service.{Provisos, qualifyTicks, fillTicks, selectedTicks, readyTicks, Numbers, acceptedTicks, Served, Promise}
 use Rattle.rules.proofs.Tests.{is-between}
 use Rattle.rules.proofs.OneInput.{bucket-works, calm-start}
 use Rattle.rules.proofs.Invariants.{invariants}
@@ -34,6 +34,10 @@ pub ticks-append : (after later : List Event) (s : State) → acceptedTicks s (a
 unfolding acceptedTicks run
 ticks-append [] later s = omega arith
 ticks-append (e ∷ es) later s = omega (arith, ticks-append es later (next s e))
+
+pub numbers : Numbers
+unfolding bucket
+numbers = record { qualify = refl; fill = refl }
 
 -- at the deadlines
 module _ (n r k : ℕ) (s : State) (g : Going n r k s) where

@@ -6,7 +6,7 @@ use mathlib.Core.List.{List, [], _∷_, _++_}
 use native.Mathlib.Omega.{arith}
 use lib.Dec.{ltb, eqb}
 use lib.ListN.{length, drop, length-append, length-drop}
-use borrow.Author.Tests.{ltb-true, ltb-false, lt-ltb, eq-eqb, ne-eqb}
+use borrow.Author.Tests.{ltb-true, ltb-false, lt-ltb, eq-eqb, ne-eqb, not-false}
 use Rattle.rules.specs.Words.{if_then_else_}
 use Rattle.rules.specs.Events.{Event}
 use Rattle.rules.specs.State.{State}
@@ -15,7 +15,7 @@ use Rattle.rules.specs.Run.{Outcome, outcome}
 use Rattle.rules.specs.Sheet.{Decoded, event, bad, decode, settingsCount, eventsAt, eventsCount, sheetEnd, settingsOf, before, eventsOf, sheetEvents, isEvent, allEvents, recordCount, check, recordOf, records, front, outputAfter}
 use Rattle.rules.specs.Printout.{digit, decimalIn, decimal}
 use Rattle.rules.specs.Laws.{Fits, Outputs, OutputKept, number, Decimal}
-use Rattle.rules.proofs.Tests.{by-test, and-left, and-right}
+use Rattle.rules.proofs.Tests.{if-case, and-left, and-right, unrefused}
 
 -- ---- the output
 
@@ -49,23 +49,15 @@ record Passed (s : List ℕ) (room : ℕ) : Type 0 where
 
 passed : (s : List ℕ) (room : ℕ) → check s room ≡ 0 → Passed s room
 unfolding check
-passed s room =
-    go (ltb 65_535 (length s) || ltb 256 (settingsCount s)) (ltb (length s) (sheetEnd s)) (ltb (sheetEnd s) (length s)) good refl (ltb room (4 * recordCount s)) refl
-  where
-    good : Bool
-    good = allEvents (eventsCount s) (drop (eventsAt s + 2) s)
-
-    no : ⊥ → Passed s room
-    no x = absurd x
-
-    go : (a b c d : Bool) → good ≡ d → (f : Bool) → ltb room (4 * recordCount s) ≡ f
-        → _≡_ {A = ℕ} (if a then 9 else (if b then 10 else (if c then 11 else (if not d then 12 else (if f then 13 else 0))))) 0 → Passed s room
-    go true b c d ed f ef e = no (omega arith)
-    go false true c d ed f ef e = no (omega arith)
-    go false false true d ed f ef e = no (omega arith)
-    go false false false false ed f ef e = no (omega arith)
-    go false false false true ed true ef e = no (omega arith)
-    go false false false true ed false ef e = record { events = ed; fits = ltb-false room (4 * recordCount s) ef }
+passed s room e =
+    let first = unrefused (ltb 65_535 (length s) || ltb 256 (settingsCount s)) 8 _ e in
+    let second = unrefused (ltb (length s) (sheetEnd s)) 9 _ (first .1) in
+    let third = unrefused (ltb (sheetEnd s) (length s)) 10 _ (second .1) in
+    let fourth = unrefused _ 11 _ (third .1) in
+    record {
+      events = not-false (allEvents (eventsCount s) (drop (eventsAt s + 2) s)) (fourth .0);
+      fits = ltb-false room (4 * recordCount s) (unrefused _ 12 0 (fourth .1) .0);
+    }
 
 length-sheet : (s : List ℕ) → allEvents (eventsCount s) (drop (eventsAt s + 2) s) ≡ true → length (sheetEvents s) ≡ recordCount s
 unfolding sheetEvents recordCount
@@ -79,8 +71,7 @@ outputs s output e =
     record {
       written = front-length;
       within = ok .fits;
-      kept = length-append (front s (length output)) (drop (length (front s (length output))) output)
-          ∙ omega (arith, length-drop (length (front s (length output))) output, front-length, ok .fits);
+      kept = simp (length-append, length-drop) (omega (arith, front-length, ok .fits));
     }
   where
     ok : Passed s (length output)
@@ -108,14 +99,10 @@ digit-value d h = rw (lt-ltb d 10 h) (omega arith)
 decimal-in : (fuel n : ℕ) → n < fuel → number 0 (decimalIn fuel n) ≡ n
 unfolding decimalIn number
 decimal-in zero n h = omega arith
-decimal-in (suc fuel) n h = go (ltb n 10) refl (decimal-in fuel (n / 10))
-  where
-    go : (b : Bool) → ltb n 10 ≡ b → (n / 10 < fuel → number 0 (decimalIn fuel (n / 10)) ≡ n / 10)
-        → number 0 (elim b as (λ x. List ℕ) [ true ↦ digit n ∷ [] | false ↦ decimalIn fuel (n / 10) ++ digit (n % 10) ∷ [] ]) ≡ n
-    go true t ih = omega (arith, digit-value n (ltb-true n 10 t))
-    go false t ih =
-        number-snoc 0 (decimalIn fuel (n / 10)) (digit (n % 10))
-        ∙ omega (arith, ih (omega (arith, ltb-false n 10 t)), digit-value (n % 10) (omega arith))
+decimal-in (suc fuel) n h =
+    if-case (λ ds. number 0 ds ≡ n) (ltb n 10) (λ t. omega (arith, digit-value n (ltb-true n 10 t)))
+    (λ t. number-snoc 0 (decimalIn fuel (n / 10)) (digit (n % 10))
+    ∙ omega (arith, decimal-in fuel (n / 10) (omega (arith, ltb-false n 10 t)), digit-value (n % 10) (omega arith)))
 
 pub decimal-digits : Decimal
 unfolding decimal

@@ -64,7 +64,15 @@ high lo hi n e = leb-true n hi (and-right (leb lo n) (leb n hi) e)
 pub is-between : (lo hi n : ℕ) → lo ≤ n → n ≤ hi → between lo hi n ≡ true
 is-between lo hi n l h = rw (le-leb lo n l, le-leb n hi h) refl
 
--- 0, so the test did not lead to a refusal
+-- 0, so this test did not lead to its refusal, and no later one did
+pub unrefused : (b : Bool) (n rest : ℕ) → (if b then suc n else rest) ≡ 0 → (b ≡ false) × (rest ≡ 0)
+unrefused true n rest e = absurd (some e)
+  where
+    some : suc n ≡ 0 → ⊥
+    some z = omega arith
+unrefused false n rest e = (refl, e)
+
+-- accepted, so the one test did not fail
 pub zero-if : (b : Bool) (n : ℕ) → eqb (if b then 0 else suc n) 0 ≡ true → b ≡ true
 zero-if true n e = refl
 zero-if false n e = absurd (false≢true (sym (eqb·suc-zero n) ∙ e))

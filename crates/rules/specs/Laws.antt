@@ -9,10 +9,10 @@ use lib.Signed.{_≤ℤ_}
 use lib.ListN.{length}
 use Rattle.rules.specs.Words.{if_then_else_, isInput, isTracked}
 use Rattle.rules.specs.Events.{Event, sampleLimit, isTick}
-use Rattle.rules.specs.Monitors.{Bucket, bucketOf, Input, fullSoak, alarmTicks}
+use Rattle.rules.specs.Monitors.{Bucket, bucketOf, Input, fullSoak, qualified, alarmTicks}
 use Rattle.rules.specs.Pll.{modeNumber, holdover, is, Loop, lockTicks, unlockTicks}
-use Rattle.rules.specs.Settings.{Settings, reject, qualification, usable, ahead, delayTicks}
-use Rattle.rules.specs.Selection.{Inputs, input, Choice, available, candidate, best, waitLimit}
+use Rattle.rules.specs.Settings.{Settings, automatic, reject, qualification, revertive, ahead, delayTicks}
+use Rattle.rules.specs.Selection.{Inputs, input, Choice, available, candidate, best, settled, waitLimit, waitAfter, reverted, chosen}
 use Rattle.rules.specs.History.{History, blockSamples, keptBlocks, readyBlocks, ready, sumLimit, saturated, sumOf, value}
 use Rattle.rules.specs.State.{State, selected, mode}
 use Rattle.rules.specs.Tick.{holdingLimit}
@@ -133,6 +133,24 @@ BestCandidate = (set : Settings) (inputs : Inputs) → BestOf set inputs (best s
 -- a candidate that is a reference is available: none is taken unjudged or masked
 abbrev pub Judged : Type 0
 Judged = (set : Settings) (inputs : Inputs) (c : ℕ) → isInput c ≡ true → candidate set inputs c ≡ true → available set inputs c ≡ true
+
+-- what is selected is none, Free Run or a qualified reference
+abbrev pub Selectable : Inputs → ℕ → Type 0
+Selectable inputs c = ((c ≡ 0) ⊎ (c ≡ 9)) ⊎ ((isInput c ≡ true) × (qualified (input inputs c) ≡ true))
+
+abbrev pub Selected : Type 0
+Selected = (set : Settings) (inputs : Inputs) (c : Choice) → Selectable inputs (chosen set inputs c .selected)
+
+-- a non-revertive candidate stays selected, whatever the best's own bit 3 says
+abbrev pub NonRevertive : Type 0
+NonRevertive =
+    (set : Settings) (inputs : Inputs) (c : Choice) → automatic set ≡ true → candidate set inputs (c .selected) ≡ true → revertive set (c .selected) ≡ false
+    → chosen set inputs c ≡ settled (c .selected)
+
+-- a wait starts anew for another best, and ends with the switch not before its n ticks are over
+pub record WaitRule : Type 0 where
+  pub anew : (b : ℕ) (c : Choice) → (c .waitFor ≡ b → ⊥) → waitAfter b c ≡ 1
+  pub full : (n b : ℕ) (c : Choice) → (c .selected ≡ b → ⊥) → reverted n b c .selected ≡ b → n < waitAfter b c
 
 -- ---- the value
 

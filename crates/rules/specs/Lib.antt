@@ -14,5 +14,7 @@ pub mod Refusals
 pub mod Run
 pub mod Sheet
 pub mod Printout
+pub mod Table
+pub mod Avoided
 pub mod Laws
 pub mod Service

@@ -29,7 +29,9 @@ digit d = if ltb d 10 then 48 + d else 87 + d
 -- "in decimal", with no leading 0; `fuel` is at least the number of digits
 unfoldable pub decimalIn : ℕ → ℕ → List ℕ
 decimalIn zero n = []
-decimalIn (suc fuel) n = elim (ltb n 10) [ true ↦ digit n ∷ [] | false ↦ decimalIn fuel (n / 10) ++ digit (n % 10) ∷ [] ]
+decimalIn (suc fuel) n =
+    let more = decimalIn fuel (n / 10) ++ digit (n % 10) ∷ [] in
+    if ltb n 10 then digit n ∷ [] else more
 
 unfoldable pub decimal : ℕ → List ℕ
 decimal n = decimalIn (n + 1) n

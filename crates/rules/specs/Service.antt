@@ -7,7 +7,7 @@ use mathlib.Core.List.{List, [], _∷_, _++_}
 use lib.IntN.{natAbs}
 use Rattle.rules.specs.Words.{if_then_else_, bit, bitOf}
 use Rattle.rules.specs.Events.{Event, tick, measurement, hit, write, isTick}
-use Rattle.rules.specs.Monitors.{Bucket, bucketOf, fullSoak, alarmTicks}
+use Rattle.rules.specs.Monitors.{Bucket, bucket, bucketOf, fullSoak, alarmTicks}
 use Rattle.rules.specs.Pll.{lockTicks}
 use Rattle.rules.specs.Settings.{Settings, priority, revertive, qualification, reversion}
 use Rattle.rules.specs.Selection.{input}
@@ -98,6 +98,11 @@ selectedTicks r s = qualifyTicks (bucketOf r) + reversion (s .settings)
 -- until Ready stands too: 6,379 + n
 abbrev pub readyTicks : ℕ → State → ℕ
 readyTicks r s = selectedTicks r s + fillTicks
+
+-- in figures
+pub record Numbers : Type 0 where
+  pub qualify : qualifyTicks bucket ≡ 860
+  pub fill : fillTicks ≡ 5_519
 
 -- how many accepted ticks a list has
 unfoldable pub acceptedTicks : State → List Event → ℕ
