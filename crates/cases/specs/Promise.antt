@@ -12,7 +12,7 @@ use Rattle.rules.specs.State.{State, selected, Ready}
 use Rattle.rules.specs.Registers.{fresh}
 use Rattle.rules.specs.Run.{run}
 use Rattle.rules.specs.Service.{Provisos, selectedTicks, readyTicks, acceptedTicks, Served}
-use Rattle.rules.specs.Table.{Row, _is_, Holds}
+use Rattle.rules.specs.Table.{_is_, Holds}
 
 -- ---- the history
 

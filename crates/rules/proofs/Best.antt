@@ -1,15 +1,15 @@
 -- The priority order, the best candidate, and what the automatic choice makes of it.
 use Prim.Native.Nat.{ℕ, zero, suc, _-_, _≤_, _<_}
-use mathlib.Core.Path.{_≡_, refl, sym, ap, subst, _∙_}
+use mathlib.Core.Path.{_≡_, refl, sym, ap, _∙_}
 use mathlib.Core.Logic.{_⊎_, inl, inr}
-use mathlib.Core.Bool.{Bool, true, false, not, _&&_, _||_}
+use mathlib.Core.Bool.{Bool, true, false, _&&_, _||_}
 use native.Mathlib.Omega.{arith}
 use lib.Dec.{leb, ltb, eqb}
-use borrow.Author.Tests.{eqb-true, eqb-false, leb-true, leb-false, ltb-true, ltb-false, eq-eqb, ne-eqb, lt-ltb}
-use Rattle.rules.specs.Words.{if_then_else_, isInput}
+use borrow.Author.Tests.{eqb-true, eqb-false, leb-true, leb-false, ltb-true, ltb-false, eq-eqb, lt-ltb}
+use Rattle.rules.specs.Words.{isInput}
 use Rattle.rules.specs.Monitors.{qualified}
-use Rattle.rules.specs.Settings.{Settings, priority, usable, revertive, ahead, reversion}
-use Rattle.rules.specs.Selection.{Inputs, input, Choice, available, candidate, bestUpTo, best, settled, waitAfter, switches, reverted, reselected}
+use Rattle.rules.specs.Settings.{Settings, priority, usable, ahead}
+use Rattle.rules.specs.Selection.{Inputs, input, available, candidate, bestUpTo, best}
 use Rattle.rules.specs.Laws.{BestOf, BestCandidate, Judged}
 use Rattle.rules.proofs.Tests.{if-case, by-test, clash, or-true, and-left, and-right, or-cases, low, high}
 

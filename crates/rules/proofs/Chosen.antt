@@ -1,12 +1,12 @@
 -- What the choice of a tick comes to.
-use Prim.Native.Nat.{ℕ, _-_, _+_, _≤_, _<_, min}
-use mathlib.Core.Path.{_≡_, refl, sym, ap, _∙_}
+use Prim.Native.Nat.{ℕ, _-_, _+_, _≤_, _<_}
+use mathlib.Core.Path.{_≡_, refl}
 use mathlib.Core.Logic.{_⊎_, inl, inr}
-use mathlib.Core.Bool.{Bool, true, false, not, _&&_, _||_}
+use mathlib.Core.Bool.{true, false, not, _&&_, _||_}
 use native.Mathlib.Omega.{arith}
 use lib.Dec.{leb, eqb}
 use borrow.Author.Tests.{eqb-true, eqb-false, leb-true, leb-false, eq-eqb, ne-eqb, not-false, not-true}
-use Rattle.rules.specs.Words.{if_then_else_, isInput}
+use Rattle.rules.specs.Words.{isInput}
 use Rattle.rules.specs.Monitors.{qualified}
 use Rattle.rules.specs.Settings.{Settings, automatic, opMode, revertive, reversion}
 use Rattle.rules.specs.Selection.{Inputs, input, Choice, candidate, best, settled, waitLimit, waitAfter, switches, reverted, reselected, manual, chosen}

@@ -1,13 +1,12 @@
 -- The counts of ticks: the delay of a reversion, and the hours in Holdover.
 use Prim.Native.Nat.{ℕ, _+_, _/_, min}
-use mathlib.Core.Path.{_≡_, refl, sym, ap, _∙_}
-use mathlib.Core.Bool.{Bool, true, false, not, _&&_}
+use mathlib.Core.Path.{_≡_, refl}
+use mathlib.Core.Bool.{true, _&&_}
 use mathlib.Core.List.{List, [], _∷_}
 use native.Mathlib.Omega.{arith}
-use lib.Dec.{eqb}
 use borrow.Author.Tests.{eqb-false, ne-eqb}
 use Rattle.rules.specs.Words.{if_then_else_, isTracked}
-use Rattle.rules.specs.Events.{Event, tick, measurement, hit, write, isTick}
+use Rattle.rules.specs.Events.{Event, tick, measurement, hit, write}
 use Rattle.rules.specs.Pll.{Mode, holdover, is, modeNumber}
 use Rattle.rules.specs.Settings.{delayTicks}
 use Rattle.rules.specs.State.{State, selected, mode}

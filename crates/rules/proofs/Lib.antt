@@ -10,6 +10,9 @@ pub mod EightInputs
 pub mod OneInput
 pub mod Best
 pub mod Chosen
+pub mod SoundInputs
+pub mod SoundLoop
+pub mod SoundHistory
 pub mod Invariants
 pub mod Bytes
 pub mod Sheets

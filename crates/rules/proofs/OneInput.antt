@@ -1,13 +1,12 @@
 -- One input: what holds of it in every state, and what holds of one that has behaved for k ticks. Both for any bucket.
-use Prim.Native.Nat.{ℕ, zero, suc, _+_, _-_, _*_, _≤_, _<_, min, max}
+use Prim.Native.Nat.{ℕ, zero, suc, _+_, _-_, _*_, _≤_, _<_, min}
 use mathlib.Core.Path.{_≡_, refl, ap}
 use mathlib.Core.Bool.{Bool, true, false}
 use native.Mathlib.Omega.{arith}
 use native.Mathlib.Nat.{one-le-mul, mul-le-mul-left, lt-of-mul-lt-mul-left}
-use lib.Dec.{leb, ltb, eqb}
+use lib.Dec.{leb}
 use lib.IntN.{ℤ, natAbs}
-use borrow.Author.Tests.{eqb-true, leb-true, leb-false, eq-eqb, le-leb, lt-leb, le-ltb}
-use Rattle.rules.specs.Words.{if_then_else_}
+use borrow.Author.Tests.{leb-true, leb-false, eq-eqb, le-leb, lt-leb, le-ltb}
 use Rattle.rules.specs.Monitors.{Bucket, bucket, levelAfter, decayAfter, alarmAfter, activityAfter, Input, good, fullSoak, soakAfter, monitored, qualified, unsoaked, alarmTicks, lockAlarmed, frequencyAfter, measured, freshInput}
 use Rattle.rules.specs.Laws.{SoundInput}
 use Rattle.rules.specs.Service.{settleTicks, qualifyTicks}

@@ -2,7 +2,7 @@
 use Prim.Native.Nat.{ℕ, suc, _+_, _-_, _*_, _≤_, _<_, min}
 use mathlib.Core.Path.{_≡_, refl, sym, ap, _∙_, subst}
 use mathlib.Core.Logic.{_⊎_, inl, inr}
-use mathlib.Core.Bool.{Bool, true, false, not, _&&_}
+use mathlib.Core.Bool.{Bool, true, false, _&&_}
 use mathlib.Core.List.{List, [], _∷_}
 use native.Mathlib.Omega.{arith}
 use lib.Dec.{leb, ltb, eqb}
@@ -12,9 +12,9 @@ use borrow.Author.Tests.{eqb-true, eqb-false, leb-true, leb-false, ltb-true, ltb
 use Rattle.rules.specs.Words.{if_then_else_, bitOf, isInput, isTracked, isCounted}
 use Rattle.rules.specs.Events.{Event, tick, measurement, hit, write, isTick}
 use Rattle.rules.specs.Monitors.{bucketOf, Input, monitored, measured, unsoaked, lockAlarmed, qualified}
-use Rattle.rules.specs.Pll.{Mode, locked, is, modeNumber, Loop, lockTicks, looped, alarmDue}
+use Rattle.rules.specs.Pll.{locked, is, modeNumber, Loop, lockTicks, looped, alarmDue}
 use Rattle.rules.specs.Settings.{Settings, policy, automatic, reject, qualification, priority, usable, revertive, ahead, reversion}
-use Rattle.rules.specs.Selection.{Inputs, input, altered, Choice, available, candidate, best, settled, waitAfter, waitLimit, reselected, chosen, modeAfter, steered}
+use Rattle.rules.specs.Selection.{Inputs, input, altered, Choice, available, candidate, settled, waitLimit, reselected, chosen, modeAfter, steered}
 use Rattle.rules.specs.History.{History, blockSamples, keptBlocks, readyBlocks, refilled, withBlocks, saturated, sampled, withLast, noted, recorded}
 use Rattle.rules.specs.State.{State, selected, mode, Ready}
 use Rattle.rules.specs.Tick.{watched, loopAfter, inputsAfter, steps1to4, step5, ticked}
@@ -22,12 +22,13 @@ use Rattle.rules.specs.Refusals.{refusal, accepted}
 use Rattle.rules.specs.Run.{afterMeasurement, afterHit, effect, next, run}
 use Rattle.rules.specs.Laws.{SoundInputs, Lawful}
 use Rattle.rules.specs.Service.{AheadOfInput, AheadOfFreeRun, Revertive, Preferred, Fair, AllFair, qualifyTicks, acceptedTicks}
-use Rattle.rules.proofs.Tests.{if-case, by-test, clash, and-false, and-left, and-right, low, high, is-between, zero-if}
+use Rattle.rules.proofs.Tests.{if-case, by-test, clash, and-false, and-left, and-right, low, high, zero-if}
 use Rattle.rules.proofs.EightInputs.{input-each, input-altered-other, input-altered-same}
 use Rattle.rules.proofs.OneInput.{bucket-works, Calm, calm-tick, calm-qualified, calm-measured}
 use Rattle.rules.proofs.Best.{ahead-is, candidate-usable, best-is}
 use Rattle.rules.proofs.Chosen.{Waits, reselected-cases, wait-one, wait-more}
-use Rattle.rules.proofs.Invariants.{choiceAfter, sound-inputs, sound-watched, lawful-tick, lawful-next}
+use Rattle.rules.proofs.Invariants.{lawful-next}
+use Rattle.rules.proofs.SoundLoop.{choiceAfter}
 
 -- ---- the settings: r leads, and whatever else is usable is revertive
 

@@ -1,11 +1,10 @@
 -- Demand 3 of the rules: the promise of service, proved.
-use Prim.Native.Nat.{ℕ, _+_, _-_, _*_, _≤_, _<_}
-use mathlib.Core.Path.{_≡_, refl, sym, ap, _∙_}
-use mathlib.Core.Logic.{_⊎_, inl, inr}
-use mathlib.Core.Bool.{Bool, true, false}
+use Prim.Native.Nat.{ℕ, _+_, _-_, _≤_}
+use mathlib.Core.Path.{_≡_, refl}
+use mathlib.Core.Logic.{inl, inr}
+use mathlib.Core.Bool.{true}
 use mathlib.Core.List.{List, [], _∷_, _++_}
 use native.Mathlib.Omega.{arith}
-use lib.Dec.{leb}
 use lib.ListN.{length}
 use borrow.Author.Tests.{le-leb, eq-eqb}
 use Rattle.rules.specs.Words.{isInput}
@@ -13,16 +12,16 @@ use Rattle.rules.specs.Events.{Event}
 use Rattle.rules.specs.Monitors.{bucket, bucketOf}
 use Rattle.rules.specs.Settings.{reversion}
 use Rattle.rules.specs.Selection.{input}
-use Rattle.rules.specs.History.{blockSamples, readyBlocks, ready}
+use Rattle.rules.specs.History.{readyBlocks, ready}
 use Rattle.rules.specs.State.{State, selected, Ready}
 use Rattle.rules.specs.Registers.{fresh}
 use Rattle.rules.specs.Run.{next, run}
 use Rattle.rules.specs.Laws.{Lawful}
-use Rattle.rules.specs.Service.{Provisos, qualifyTicks, fillTicks, selectedTicks, readyTicks, Numbers, acceptedTicks, Served, Promise}
+use Rattle.rules.specs.Service.{Provisos, qualifyTicks, fillTicks, Numbers, acceptedTicks, Served, Promise}
 use Rattle.rules.proofs.Tests.{is-between}
 use Rattle.rules.proofs.OneInput.{bucket-works, calm-start}
 use Rattle.rules.proofs.Invariants.{invariants}
-use Rattle.rules.proofs.Progress.{leading, Filled, Serving, Phase, early, waits, serves, phaseOf, Going, going-run}
+use Rattle.rules.proofs.Progress.{leading, Filled, Serving, early, waits, serves, phaseOf, Going, going-run}
 
 -- a list run in two parts
 pub run-append : (before after : List Event) (s : State) → run s (before ++ after) ≡ run (run s before) after

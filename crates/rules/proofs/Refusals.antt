@@ -1,11 +1,9 @@
 -- Events and registers: a refused event, a fresh unit, the bits of the value.
 use Prim.Native.Nat.{_-_, _%_}
-use mathlib.Core.Path.{_≡_, refl, ap}
+use mathlib.Core.Path.{refl, ap}
 use native.Mathlib.Omega.{arith}
-use lib.IntN.{ℤ, pos, negsuc}
-use lib.Dec.{ltb}
+use lib.IntN.{pos, negsuc}
 use borrow.Author.Tests.{lt-ltb, le-ltb}
-use Rattle.rules.specs.Words.{if_then_else_}
 use Rattle.rules.specs.History.{ready, freshHistory}
 use Rattle.rules.specs.Registers.{fresh, freshFrom}
 use Rattle.rules.specs.Reading.{twos}

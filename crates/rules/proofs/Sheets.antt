@@ -1,20 +1,19 @@
 -- Run sheets: what a run writes, and the digits of a number.
 use Prim.Native.Nat.{ℕ, zero, suc, _+_, _-_, _*_, _/_, _%_, _≤_, _<_}
-use mathlib.Core.Path.{_≡_, refl, sym, ap, _∙_}
-use mathlib.Core.Bool.{Bool, true, false, not, _&&_, _||_, false≢true}
+use mathlib.Core.Path.{_≡_, refl, ap, _∙_}
+use mathlib.Core.Bool.{true, false, _||_, false≢true}
 use mathlib.Core.List.{List, [], _∷_, _++_}
 use native.Mathlib.Omega.{arith}
-use lib.Dec.{ltb, eqb}
+use lib.Dec.{ltb}
 use lib.ListN.{length, drop, length-append, length-drop}
 use borrow.Author.Tests.{ltb-true, ltb-false, lt-ltb, eq-eqb, ne-eqb, not-false}
-use Rattle.rules.specs.Words.{if_then_else_}
 use Rattle.rules.specs.Events.{Event}
 use Rattle.rules.specs.State.{State}
 use Rattle.rules.specs.Registers.{fresh}
-use Rattle.rules.specs.Run.{Outcome, outcome}
+use Rattle.rules.specs.Run.{outcome}
 use Rattle.rules.specs.Sheet.{Decoded, event, bad, decode, settingsCount, eventsAt, eventsCount, sheetEnd, settingsOf, before, eventsOf, sheetEvents, isEvent, allEvents, recordCount, check, recordOf, records, front, outputAfter}
 use Rattle.rules.specs.Printout.{digit, decimalIn, decimal}
-use Rattle.rules.specs.Laws.{Fits, Outputs, OutputKept, number, Decimal}
+use Rattle.rules.specs.Laws.{Outputs, OutputKept, number, Decimal}
 use Rattle.rules.proofs.Tests.{if-case, and-left, and-right, unrefused}
 
 -- ---- the output

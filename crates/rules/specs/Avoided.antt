@@ -1,11 +1,11 @@
 -- The traps of document 01 and the cheap programs of "Every result is settled", avoided: for each a small case where the rules differ from the wrong ones.
 use Prim.Native.Nat.{ℕ}
 use mathlib.Core.Bool.{Bool, true, false}
-use mathlib.Core.List.{List, [], _∷_, map}
-use lib.IntN.{ℤ, pos, negsuc}
+use mathlib.Core.List.{List, [], _∷_}
+use lib.IntN.{pos, negsuc}
 use lib.ListN.{replicate}
 use Rattle.rules.specs.Words.{if_then_else_}
-use Rattle.rules.specs.Events.{Event, tick, hit, write}
+use Rattle.rules.specs.Events.{tick, write}
 use Rattle.rules.specs.Monitors.{Input, measured, fullSoak}
 use Rattle.rules.specs.Pll.{holdover, preLocked}
 use Rattle.rules.specs.Settings.{Settings}

@@ -2,7 +2,7 @@
 use Prim.Native.Nat.{ℕ, _+_, _-_, _*_, _/_, _%_, _≤_, _<_, min}
 use mathlib.Core.Path.{_≡_}
 use mathlib.Core.Logic.{_⊎_}
-use mathlib.Core.Bool.{Bool, true, false, _&&_}
+use mathlib.Core.Bool.{true, false, _&&_}
 use mathlib.Core.List.{List, [], _∷_}
 use lib.IntN.{ℤ, pos, natAbs, _+ℤ_, _*ℤ_}
 use lib.Signed.{_≤ℤ_}
@@ -17,7 +17,7 @@ use Rattle.rules.specs.History.{History, blockSamples, keptBlocks, ready
 use Rattle.rules.specs.State.{State, selected, mode}
 use Rattle.rules.specs.Tick.{holdingLimit}
 use Rattle.rules.specs.Registers.{largest, fresh}
-use Rattle.rules.specs.Reading.{hours, twos, Answer, read}
+use Rattle.rules.specs.Reading.{hours, twos, read}
 use Rattle.rules.specs.Refusals.{accepted}
 use Rattle.rules.specs.Run.{next, run}
 use Rattle.rules.specs.Sheet.{signedWord, recordCount, check, front, outputAfter}

@@ -1,6 +1,6 @@
 -- Document 01, "PLL (step 3)".
 use Prim.Native.Nat.{ℕ, _+_, min}
-use mathlib.Core.Bool.{Bool, true, false}
+use mathlib.Core.Bool.{Bool}
 use lib.Dec.{eqb}
 use Rattle.rules.specs.Words.{if_then_else_}
 

@@ -1,6 +1,5 @@
 -- What each event leaves, and a list of events from a fresh unit.
 use Prim.Native.Nat.{ℕ}
-use mathlib.Core.Bool.{Bool}
 use mathlib.Core.List.{List, [], _∷_}
 use lib.Dec.{eqb}
 use lib.IntN.{ℤ}
@@ -12,7 +11,7 @@ use Rattle.rules.specs.Selection.{altered, settled, unselectedMode}
 use Rattle.rules.specs.History.{openEmptied, commanded}
 use Rattle.rules.specs.State.{State, selected, Ready}
 use Rattle.rules.specs.Tick.{ticked}
-use Rattle.rules.specs.Registers.{written, fresh}
+use Rattle.rules.specs.Registers.{written}
 use Rattle.rules.specs.Refusals.{refusal, accepted}
 
 -- a measurement, on one input

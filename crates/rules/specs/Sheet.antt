@@ -2,14 +2,14 @@
 use Prim.Native.Nat.{ℕ, zero, suc, _+_, _*_, _-_}
 use mathlib.Core.Bool.{Bool, true, false, not, _&&_, _||_}
 use mathlib.Core.List.{List, [], _∷_, _++_}
-use lib.Dec.{ltb, leb, eqb}
+use lib.Dec.{ltb, eqb}
 use lib.IntN.{ℤ, pos, negsuc, natAbs}
 use lib.ListN.{length, getD, drop}
 use Rattle.rules.specs.Words.{if_then_else_}
 use Rattle.rules.specs.Events.{Event, tick, measurement, hit, write}
 use Rattle.rules.specs.State.{State}
 use Rattle.rules.specs.Registers.{fresh}
-use Rattle.rules.specs.Reading.{Answer, read}
+use Rattle.rules.specs.Reading.{read}
 use Rattle.rules.specs.Run.{Outcome, outcome}
 
 -- ---- numbers in bytes, "low byte first"

@@ -3,7 +3,7 @@ use Prim.Native.Nat.{ℕ, _+_, min}
 use mathlib.Core.Bool.{Bool, _&&_}
 use lib.IntN.{ℤ}
 use Rattle.rules.specs.Words.{if_then_else_, bitOf, isTracked}
-use Rattle.rules.specs.Monitors.{Input, bucketOf, monitored, lockAlarmed}
+use Rattle.rules.specs.Monitors.{bucketOf, monitored, lockAlarmed}
 use Rattle.rules.specs.Pll.{Mode, holdover, locked, is, Loop, looped, alarmDue}
 use Rattle.rules.specs.Settings.{policy}
 use Rattle.rules.specs.Selection.{Inputs, altered, eachFrom, chosen, steered}
