@@ -17,5 +17,6 @@ pub mod Invariants
 pub mod Bytes
 pub mod Sheets
 pub mod Refusals
+pub mod Laws
 pub mod Progress
 pub mod Promise

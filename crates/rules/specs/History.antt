@@ -91,7 +91,7 @@ unfoldable pub sumOf : List ℤ → ℤ
 sumOf [] = pos 0
 sumOf (x ∷ xs) = x +ℤ sumOf xs
 
--- "The value is the greatest whole number not above the mean of the kept samples." The quotient is rounded down, for a negative sum too (`Floor` in Laws).
+-- "The value is the greatest whole number not above the mean of the kept samples." The quotient is rounded down, for a negative sum too (`Value` in Laws).
 unfoldable pub value : History → ℤ
 value h = shrZ (sumOf (h .kept)) (blockSamples * length (h .kept))
 

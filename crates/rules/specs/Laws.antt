@@ -1,4 +1,5 @@
--- What holds in every state that events lead to from a fresh unit, and other laws of the rules, as statements. Their proofs stand in proofs/ under the same names.
+-- What holds in every state that events lead to from a fresh unit, and other laws of the rules, as statements. The last definition, `Laws`, has them all, and is
+-- proved in proofs/Laws.antt.
 use Prim.Native.Nat.{ℕ, _+_, _-_, _*_, _/_, _%_, _≤_, _<_, min}
 use mathlib.Core.Path.{_≡_}
 use mathlib.Core.Logic.{_⊎_}
@@ -207,3 +208,25 @@ number n (d ∷ ds) = number (10 * n + (d - 48)) ds
 
 abbrev pub Decimal : Type 0
 Decimal = (n : ℕ) → number 0 (decimal n) ≡ n
+
+-- ---- all of them
+
+pub record Laws : Type 0 where
+  pub invariants : Invariants
+  pub saturation : Saturation
+  pub hours : Hours
+  pub delays : Delays
+  pub bestCandidate : BestCandidate
+  pub judged : Judged
+  pub selected : Selected
+  pub nonRevertive : NonRevertive
+  pub waitRule : WaitRule
+  pub value : Value
+  pub valueRange : ValueRange
+  pub twosComplement : TwosComplement
+  pub notReady : NotReady
+  pub refused : Refused
+  pub bytes : Bytes
+  pub outputs : Outputs
+  pub outputKept : OutputKept
+  pub decimal : Decimal

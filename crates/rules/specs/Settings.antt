@@ -44,7 +44,7 @@ usable set c = if eqb c 9 then bit (set 0x24) 4 else (isInput c && bitOf (set 0x
 unfoldable pub ahead : Settings → ℕ → ℕ → Bool
 ahead set a b = ltb (priority set a) (priority set b) || (eqb (priority set a) (priority set b) && ltb a b)
 
--- 0x43, "delay in minutes", in ticks: "n being the least with 4n ≥ 1,875 times the delay in minutes" (`LeastDelay` in Laws)
+-- 0x43, "delay in minutes", in ticks: "n being the least with 4n ≥ 1,875 times the delay in minutes" (`Delays` in Laws)
 unfoldable pub delayTicks : ℕ → ℕ
 delayTicks minutes = (1875 * minutes + 3) / 4
 

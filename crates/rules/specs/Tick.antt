@@ -24,7 +24,7 @@ inputsAfter mask lock s =
     if isTracked (selected s) && alarmDue (loopAfter lock s) then altered lockAlarmed (selected s) (watched mask (s .inputs))
     else watched mask (s .inputs)
 
--- 255 hours of 28,125 ticks: the count stops here, and 0x27 shows no more than 255 (`HoursCount` in Laws)
+-- 255 hours of 28,125 ticks: the count stops here, and 0x27 shows no more than 255 (`Hours` in Laws)
 abbrev pub holdingLimit : ℕ
 holdingLimit = 7_171_875
 

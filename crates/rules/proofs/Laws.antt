@@ -1,0 +1,33 @@
+-- The laws of the rules, all in one place: each statement with its proof.
+use Rattle.rules.specs.Laws.{Laws}
+use Rattle.rules.proofs.Counts.{delays, hours-held}
+use Rattle.rules.proofs.Value.{value-floor, value-range}
+use Rattle.rules.proofs.Best.{best-candidate, judged}
+use Rattle.rules.proofs.Chosen.{chosen-selectable, non-revertive, wait-rule}
+use Rattle.rules.proofs.Invariants.{invariants, saturation}
+use Rattle.rules.proofs.Bytes.{bytes}
+use Rattle.rules.proofs.Sheets.{outputs, output-kept, decimal-digits}
+use Rattle.rules.proofs.Refusals.{refused, not-ready, twos-complement}
+
+pub laws : Laws
+laws =
+    record {
+      invariants = invariants;
+      saturation = saturation;
+      hours = hours-held;
+      delays = delays;
+      bestCandidate = best-candidate;
+      judged = judged;
+      selected = chosen-selectable;
+      nonRevertive = non-revertive;
+      waitRule = wait-rule;
+      value = value-floor;
+      valueRange = value-range;
+      twosComplement = twos-complement;
+      notReady = not-ready;
+      refused = refused;
+      bytes = bytes;
+      outputs = outputs;
+      outputKept = output-kept;
+      decimal = decimal-digits;
+    }
