@@ -148,7 +148,12 @@ module _ (set : Settings) (inputs : Inputs) where
 
         keep : BestBelow k b → BestBelow (suc k) b
         keep (inl m) = absurd (not-0 (m .0))
-        keep (inr w) = inr (w .0, λ c h e. split k c h (λ l. w .1 c l e) (λ z. by-test (eqb (suc k) b) (λ q. inl (z ∙ eqb-true (suc k) b q)) (λ q. inr (ap (ahead set b) z ∙ ahead-total set (suc k) b (eqb-false (suc k) b q) behind))))
+        keep (inr w) = inr (w .0, λ c h e. split k c h (λ l. w .1 c l e) last)
+          where
+            last : {c : ℕ} → c ≡ suc k → (c ≡ b) ⊎ (ahead set b c ≡ true)
+            last z =
+                by-test (eqb (suc k) b) (λ q. inl (z ∙ eqb-true (suc k) b q))
+                (λ q. inr (ap (ahead set b) z ∙ ahead-total set (suc k) b (eqb-false (suc k) b q) behind))
 
   best-below : (k : ℕ) → BestBelow k (bestUpTo set inputs k)
   unfolding bestUpTo

@@ -80,7 +80,8 @@ sound-written s a v ok w = record { largest-le = bounded; apart = by-test (eqb a
 
     kept : (eqb a 0x44 || eqb a 0x45) ≡ false → qualification set + 6 ≤ reject set
     kept e =
-        rw (other-kept a v (s .settings) 0x44 (swap-eqb a 0x44 (or-false (eqb a 0x44) (eqb a 0x45) e .0)), other-kept a v (s .settings) 0x45 (swap-eqb a 0x45 (or-false (eqb a 0x44) (eqb a 0x45) e .1)))
+        let neither = or-false (eqb a 0x44) (eqb a 0x45) e in
+        rw (other-kept a v (s .settings) 0x44 (swap-eqb a 0x44 (neither .0)), other-kept a v (s .settings) 0x45 (swap-eqb a 0x45 (neither .1)))
         (w .apart)
 
 -- ---- the events

@@ -328,24 +328,27 @@ module _ (n r : ℕ) (ref : isInput r ≡ true) where
   still : (k : ℕ) (s : State) → Going n r k s → Going n r (0 + k) s
   still k s g = subst (λ (m : ℕ). Going n r m s) (omega arith) g
 
+  -- an event that is no tick, accepted or not
+  other-event : (k : ℕ) (b : Bool) (s t : State) → (b ≡ true → Lawful t → Going n r k t) → Going n r k s
+      → Lawful (if b then t else s) → Going n r (0 + k) (if b then t else s)
+  other-event k true s t f g after = still k t (f refl after)
+  other-event k false s t f g after = still k s g
+
   going-next : (k : ℕ) (s : State) (e : Event) → Fair r s e → Going n r k s → Lawful (next s e)
       → Going n r ((if isTick e && accepted s e then 1 else 0) + k) (next s e)
   unfolding next effect refusal
   going-next k s (tick mask lock x) fair g = go (accepted s (tick mask lock x)) refl
     where
-      go : (b : Bool) → accepted s (tick mask lock x) ≡ b → Lawful (if b then ticked mask lock x s else s) → Going n r ((if b then 1 else 0) + k) (if b then ticked mask lock x s else s)
-      go true e after = subst (λ (m : ℕ). Going n r m (ticked mask lock x s)) (omega arith) (going-tick n r k mask lock x s ref g after (fair e .0) (fair e .1))
+      go : (b : Bool) → accepted s (tick mask lock x) ≡ b → Lawful (if b then ticked mask lock x s else s)
+          → Going n r ((if b then 1 else 0) + k) (if b then ticked mask lock x s else s)
+      go true e after =
+          subst (λ (m : ℕ). Going n r m (ticked mask lock x s)) (omega arith) (going-tick n r k mask lock x s ref g after (fair e .0) (fair e .1))
       go false e after = still k s g
-  going-next k s (measurement i x) fair g = go (accepted s (measurement i x)) refl
-    where
-      go : (b : Bool) → accepted s (measurement i x) ≡ b → Lawful (if b then afterMeasurement i x s else s) → Going n r (0 + k) (if b then afterMeasurement i x s else s)
-      go true e after = still k (afterMeasurement i x s) (going-measurement n r k i x s ref (zero-if (isInput i) 5 e) g after fair)
-      go false e after = still k s g
-  going-next k s hit fair g = go (accepted s hit) refl
-    where
-      go : (b : Bool) → accepted s hit ≡ b → Lawful (if b then afterHit s else s) → Going n r (0 + k) (if b then afterHit s else s)
-      go true e after = still k (afterHit s) (going-hit n r k s ref (zero-if (isTracked (selected s)) 4 e) g after fair)
-      go false e after = still k s g
+  going-next k s (measurement i x) fair g =
+      other-event k (accepted s (measurement i x)) s (afterMeasurement i x s)
+      (λ e after. going-measurement n r k i x s ref (zero-if (isInput i) 5 e) g after fair) g
+  going-next k s hit fair g =
+      other-event k (accepted s hit) s (afterHit s) (λ e after. going-hit n r k s ref (zero-if (isTracked (selected s)) 4 e) g after fair) g
   going-next k s (write a v) fair g = λ after. rw fair (still k s g)
 
   pub going-run : (es : List Event) (k : ℕ) (s : State) → AllFair r s es → Going n r k s → Going n r (acceptedTicks s es + k) (run s es)
