@@ -10,7 +10,7 @@ use Rattle.rules.specs.Words.{isInput}
 use Rattle.rules.specs.Monitors.{qualified}
 use Rattle.rules.specs.Settings.{Settings, priority, usable, ahead}
 use Rattle.rules.specs.Selection.{Inputs, input, available, candidate, bestUpTo, best}
-use Rattle.rules.specs.Laws.{BestOf, BestCandidate, Judged}
+use Rattle.rules.specs.Laws.{BestOf, BestCandidate}
 use Rattle.rules.proofs.Tests.{if-case, by-test, clash, or-true, and-left, and-right, or-cases, low, high}
 
 -- ---- the order
@@ -89,17 +89,6 @@ module _ (set : Settings) (inputs : Inputs) where
   pub candidate-number : (c : ℕ) → candidate set inputs c ≡ true → (1 ≤ c) × (c ≤ 9)
   candidate-number c e =
       candidate-is c e (λ z u. (omega arith, omega arith)) (λ a. (low 1 8 c (available-is c a .0), omega (arith, high 1 8 c (available-is c a .0))))
-
-  -- a reference that is a candidate is available
-  pub judged-at : (c : ℕ) → isInput c ≡ true → candidate set inputs c ≡ true → available set inputs c ≡ true
-  judged-at c i e = candidate-is c e (λ z u. absurd (not-9 (high 1 8 c i) z)) (λ a. a)
-    where
-      not-9 : c ≤ 8 → c ≡ 9 → ⊥
-      not-9 h z = omega arith
-
-  -- a reference that is not qualified is none
-  pub unqualified : (c : ℕ) → isInput c ≡ true → qualified (input inputs c) ≡ false → candidate set inputs c ≡ false
-  unqualified c i q = by-test (candidate set inputs c) (λ e. clash (available-is c (judged-at c i e) .2) q) (λ e. e)
 
   -- ---- the best
 
@@ -199,6 +188,3 @@ module _ (set : Settings) (inputs : Inputs) where
 
 pub best-candidate : BestCandidate
 best-candidate = best-of
-
-pub judged : Judged
-judged = judged-at

@@ -1,6 +1,6 @@
 -- What the choice of a tick comes to.
 use Prim.Native.Nat.{ℕ, _-_, _+_, _≤_, _<_}
-use mathlib.Core.Path.{_≡_, refl}
+use mathlib.Core.Path.{_≡_, refl, sym, ap, _∙_}
 use mathlib.Core.Logic.{_⊎_, inl, inr}
 use mathlib.Core.Bool.{true, false, not, _&&_, _||_}
 use native.Mathlib.Omega.{arith}
@@ -8,9 +8,9 @@ use lib.Dec.{leb, eqb}
 use borrow.Author.Tests.{eqb-true, eqb-false, leb-true, leb-false, eq-eqb, ne-eqb, not-false, not-true}
 use Rattle.rules.specs.Words.{isInput}
 use Rattle.rules.specs.Monitors.{qualified}
-use Rattle.rules.specs.Settings.{Settings, automatic, opMode, revertive, reversion}
+use Rattle.rules.specs.Settings.{Settings, automatic, opMode, usable, revertive, reversion}
 use Rattle.rules.specs.Selection.{Inputs, input, Choice, candidate, best, settled, waitLimit, waitAfter, switches, reverted, reselected, manual, chosen}
-use Rattle.rules.specs.Laws.{BestOf, Selectable, Selected, NonRevertive, WaitRule}
+use Rattle.rules.specs.Laws.{BestOf, Eligible, Judged, Selectable, Selected, NonRevertive, WaitRule}
 use Rattle.rules.proofs.Tests.{if-case, by-test, clash, and-left, and-right, or-true, high}
 use Rattle.rules.proofs.Best.{available-is, candidate-is, candidate-number, best-of}
 
@@ -20,51 +20,99 @@ use Rattle.rules.proofs.Best.{available-is, candidate-is, candidate-num
 abbrev pub waiting : ℕ → Choice → Choice
 waiting b c = record { selected = c .selected; wait = waitAfter b c; waitFor = b }
 
-module _ (set : Settings) (inputs : Inputs) (c : Choice) where
-  candidate-selectable : (x : ℕ) → candidate set inputs x ≡ true → Selectable inputs x
-  candidate-selectable x e = candidate-is set inputs x e (λ z u. inl (inr z)) (λ a. inr (available-is set inputs x a .0, available-is set inputs x a .2))
-
-  best-selectable : Selectable inputs (best set inputs)
-  best-selectable = go (best-of set inputs)
+module _ (set : Settings) (inputs : Inputs) where
+  -- the best, if there is one, is a candidate
+  best-candidate-or-0 : (best set inputs ≡ 0) ⊎ (candidate set inputs (best set inputs) ≡ true)
+  best-candidate-or-0 = go (best-of set inputs)
     where
-      go : BestOf set inputs (best set inputs) → Selectable inputs (best set inputs)
-      go (inl n) = inl (inl (n .0))
-      go (inr w) = candidate-selectable (best set inputs) (w .0)
+      go : BestOf set inputs (best set inputs) → (best set inputs ≡ 0) ⊎ (candidate set inputs (best set inputs) ≡ true)
+      go (inl n) = inl (n .0)
+      go (inr w) = inr (w .0)
 
-  -- A choice settles on what may be selected, or lets the selected candidate wait on.
-  pub chosen-case : (P : Choice → Type 0)
-      → ((x : ℕ) → Selectable inputs x → P (settled x))
-      → (candidate set inputs (c .selected) ≡ true → switches (reversion set) (waitAfter (best set inputs) c) ≡ false → P (waiting (best set inputs) c))
+  -- what a choice settles on: under automatic control none or a candidate, in manual none or a qualified input
+  abbrev Settles : ℕ → Type 0
+  Settles x =
+      ((automatic set ≡ true) × ((x ≡ 0) ⊎ (candidate set inputs x ≡ true)))
+      ⊎ ((automatic set ≡ false) × ((x ≡ 0) ⊎ ((isInput x ≡ true) × (qualified (input inputs x) ≡ true))))
+
+  -- A choice settles on such a number, or lets the selected candidate wait on.
+  pub chosen-case : (c : Choice) (P : Choice → Type 0)
+      → ((x : ℕ) → Settles x → P (settled x))
+      → (automatic set ≡ true → candidate set inputs (c .selected) ≡ true → switches (reversion set) (waitAfter (best set inputs) c) ≡ false
+      → P (waiting (best set inputs) c))
       → P (chosen set inputs c)
   unfolding chosen reselected reverted manual
-  chosen-case P settle wait =
+  chosen-case c P settle wait =
       if-case P (automatic set)
-      (λ a. if-case P (not (candidate set inputs (c .selected))) (λ n. settle b best-selectable)
-      (λ n. if-case P (eqb (c .selected) b) (λ e. settle (c .selected) (here n))
-      (λ e. if-case P (not (revertive set (c .selected))) (λ v. settle (c .selected) (here n))
-      (λ v. if-case P (switches (reversion set) (waitAfter b c)) (λ w. settle b best-selectable) (λ w. wait (is-candidate n) w)))))
-      (λ a. settle _ (if-case (Selectable inputs) (isInput (opMode set) && qualified (input inputs (opMode set)))
-      (λ t. inr (and-left (isInput (opMode set)) (qualified (input inputs (opMode set))) t, and-right (isInput (opMode set)) (qualified (input inputs (opMode set))) t))
-      (λ t. inl (inl refl))))
+      (λ a. if-case P (not (candidate set inputs (c .selected))) (λ n. settle b (inl (a, best-candidate-or-0)))
+      (λ n. if-case P (eqb (c .selected) b) (λ e. settle (c .selected) (inl (a, inr (is-candidate n))))
+      (λ e. if-case P (not (revertive set (c .selected))) (λ v. settle (c .selected) (inl (a, inr (is-candidate n))))
+      (λ v. if-case P (switches (reversion set) (waitAfter b c)) (λ w. settle b (inl (a, best-candidate-or-0))) (λ w. wait a (is-candidate n) w)))))
+      (λ a. settle _ (inr (
+        a,
+        if-case Judged-or-0 (isInput s && qualified (input inputs s))
+            (λ t. inr (and-left (isInput s) (qualified (input inputs s)) t, and-right (isInput s) (qualified (input inputs s)) t)) (λ t. inl refl),
+      )))
     where
       b : ℕ
       b = best set inputs
 
+      s : ℕ
+      s = opMode set
+
+      Judged-or-0 : ℕ → Type 0
+      Judged-or-0 x = (x ≡ 0) ⊎ ((isInput x ≡ true) × (qualified (input inputs x) ≡ true))
+
       is-candidate : not (candidate set inputs (c .selected)) ≡ false → candidate set inputs (c .selected) ≡ true
       is-candidate n = not-false (candidate set inputs (c .selected)) n
 
-      here : not (candidate set inputs (c .selected)) ≡ false → Selectable inputs (c .selected)
-      here n = candidate-selectable (c .selected) (is-candidate n)
+  candidate-eligible : (x : ℕ) → candidate set inputs x ≡ true → Eligible set inputs x
+  candidate-eligible x e = candidate-is set inputs x e (λ z u. inr (inl (z, sym (ap (usable set) z) ∙ u))) (λ a. inr (inr a))
+
+  eligible-selectable : (x : ℕ) → Eligible set inputs x → Selectable inputs x
+  eligible-selectable x (inl z) = inl (inl z)
+  eligible-selectable x (inr (inl w)) = inl (inr (w .0))
+  eligible-selectable x (inr (inr a)) = inr (available-is set inputs x a .0, available-is set inputs x a .2)
+
+  candidate-selectable : (x : ℕ) → candidate set inputs x ≡ true → Selectable inputs x
+  candidate-selectable x e = eligible-selectable x (candidate-eligible x e)
+
+  pub settles-selectable : (x : ℕ) → Settles x → Selectable inputs x
+  settles-selectable x (inl w) = go (w .1)
+    where
+      go : (x ≡ 0) ⊎ (candidate set inputs x ≡ true) → Selectable inputs x
+      go (inl z) = inl (inl z)
+      go (inr e) = candidate-selectable x e
+  settles-selectable x (inr w) = go (w .1)
+    where
+      go : (x ≡ 0) ⊎ ((isInput x ≡ true) × (qualified (input inputs x) ≡ true)) → Selectable inputs x
+      go (inl z) = inl (inl z)
+      go (inr q) = inr q
+
+  settles-eligible : (x : ℕ) → automatic set ≡ true → Settles x → Eligible set inputs x
+  settles-eligible x a (inr w) = clash a (w .0)
+  settles-eligible x a (inl w) = go (w .1)
+    where
+      go : (x ≡ 0) ⊎ (candidate set inputs x ≡ true) → Eligible set inputs x
+      go (inl z) = inl z
+      go (inr e) = candidate-eligible x e
 
   -- Op_Mode 0 in manual selects none
-  pub manual-none : (not (automatic set) && eqb (opMode set) 0) ≡ true → chosen set inputs c .selected ≡ 0
+  pub manual-none : (c : Choice) → (not (automatic set) && eqb (opMode set) 0) ≡ true → chosen set inputs c .selected ≡ 0
   unfolding chosen manual settled
-  manual-none e =
+  manual-none c e =
       rw (not-true (automatic set) (and-left (not (automatic set)) (eqb (opMode set) 0) e), eqb-true (opMode set) 0 (and-right (not (automatic set)) (eqb (opMode set) 0) e)) refl
 
 pub chosen-selectable : Selected
 unfolding settled
-chosen-selectable set inputs c = chosen-case set inputs c (λ d. Selectable inputs (d .selected)) (λ x s. s) (λ e w. candidate-selectable set inputs c (c .selected) e)
+chosen-selectable set inputs c =
+    chosen-case set inputs c (λ d. Selectable inputs (d .selected)) (settles-selectable set inputs) (λ a e w. candidate-selectable set inputs (c .selected) e)
+
+pub judged : Judged
+unfolding settled
+judged set inputs c a =
+    chosen-case set inputs c (λ d. Eligible set inputs (d .selected)) (λ x s. settles-eligible set inputs x a s)
+    (λ b e w. candidate-eligible set inputs (c .selected) e)
 
 pub non-revertive : NonRevertive
 unfolding chosen reselected

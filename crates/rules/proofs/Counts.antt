@@ -10,7 +10,7 @@ use Rattle.rules.specs.Events.{Event, tick, measurement, hit, write}
 use Rattle.rules.specs.Pll.{Mode, holdover, is, modeNumber}
 use Rattle.rules.specs.Settings.{delayTicks}
 use Rattle.rules.specs.State.{State, selected, mode}
-use Rattle.rules.specs.Tick.{holdingLimit, holdingAfter, steps1to4, step5, ticked}
+use Rattle.rules.specs.Tick.{hourTicks, holdingLimit, holdingAfter, steps1to4, step5, ticked}
 use Rattle.rules.specs.Registers.{fresh, freshFrom}
 use Rattle.rules.specs.Reading.{hours}
 use Rattle.rules.specs.Refusals.{refusal, accepted}
@@ -25,7 +25,7 @@ unfolding delayTicks
 delays = omega arith
 
 -- the count that stops shows the hours that the count with no bound shows
-hours-shown : (n : ℕ) → min 255 (min holdingLimit n / 28_125) ≡ min 255 (n / 28_125)
+hours-shown : (n : ℕ) → min 255 (min holdingLimit n / hourTicks) ≡ min 255 (n / hourTicks)
 hours-shown n = omega arith
 
 -- one tick more on both counts

@@ -1,9 +1,10 @@
 -- The laws of the rules, all in one place: each statement with its proof.
 use Rattle.rules.specs.Laws.{Laws}
+use Rattle.rules.proofs.Tables.{map-places}
 use Rattle.rules.proofs.Counts.{delays, hours-held}
 use Rattle.rules.proofs.Value.{value-floor, value-range}
-use Rattle.rules.proofs.Best.{best-candidate, judged}
-use Rattle.rules.proofs.Chosen.{chosen-selectable, non-revertive, wait-rule}
+use Rattle.rules.proofs.Best.{best-candidate}
+use Rattle.rules.proofs.Chosen.{chosen-selectable, judged, non-revertive, wait-rule}
 use Rattle.rules.proofs.Invariants.{invariants, saturation}
 use Rattle.rules.proofs.Bytes.{bytes}
 use Rattle.rules.proofs.Sheets.{outputs, output-kept, decimal-digits}
@@ -26,6 +27,7 @@ laws =
       twosComplement = twos-complement;
       notReady = not-ready;
       refused = refused;
+      map = map-places;
       bytes = bytes;
       outputs = outputs;
       outputKept = output-kept;

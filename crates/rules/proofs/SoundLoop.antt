@@ -19,7 +19,7 @@ use Rattle.rules.specs.Laws.{Selectable, SoundInputs, SoundSettings, Sou
 use Rattle.rules.proofs.Tests.{if-case, by-test, clash, or-true, low, high, is-between}
 use Rattle.rules.proofs.EightInputs.{input-altered-same}
 use Rattle.rules.proofs.Best.{candidate-number}
-use Rattle.rules.proofs.Chosen.{waiting, chosen-case, chosen-selectable, manual-none, selectable-le, wait-one}
+use Rattle.rules.proofs.Chosen.{waiting, chosen-case, settles-selectable, chosen-selectable, manual-none, selectable-le, wait-one}
 use Rattle.rules.proofs.SoundInputs.{sound-watched}
 
 -- ---- the choice
@@ -46,7 +46,7 @@ sound-settled x h = record { selected-le = h; wait-lt = omega arith; unselected 
 pub sound-chosen : (set : Settings) (inputs : Inputs) (c : Choice) → SoundSettings set → c .selected ≤ 9 → SoundChoice (chosen set inputs c)
 unfolding switches
 sound-chosen set inputs c w h =
-    chosen-case set inputs c SoundChoice (λ x s. sound-settled x (selectable-le inputs x s)) (λ e n. wait e n)
+    chosen-case set inputs c SoundChoice (λ x s. sound-settled x (selectable-le inputs x (settles-selectable set inputs x s))) (λ a e n. wait e n)
   where
     b : ℕ
     b = best set inputs

@@ -1,13 +1,15 @@
 -- Tests of every row of a table, and what they say of the map of registers.
 use Prim.Native.Nat.{ℕ, zero, suc, _≤_, _<_}
 use mathlib.Core.Path.{_≡_, refl}
-use mathlib.Core.Bool.{Bool, true, _&&_, and-eq-true-iff}
+use mathlib.Core.Bool.{Bool, true, false, _&&_, and-eq-true-iff}
 use mathlib.Core.List.{List, [], _∷_}
 use native.Mathlib.Omega.{arith}
-use lib.Dec.{leb, eqb}
+use lib.Dec.{leb, ltb, eqb}
 use lib.ListN.{getD, List·getD-map}
-use borrow.Author.Tests.{leb-true, eqb-true}
-use Rattle.rules.specs.Registers.{Register, registers, reads, place, register, largest, settingsFrom, freshTable}
+use borrow.Author.Tests.{leb-true, lt-leb, ltb-true, ltb-false, eqb-true}
+use Rattle.rules.specs.Registers.{Register, registers, reads, place, inMap, register, largest, settingsFrom, freshTable}
+use Rattle.rules.specs.Laws.{Map}
+use Rattle.rules.proofs.Tests.{by-test, clash, and-false}
 
 -- every element of a list passes a test
 abbrev pub every : {A : Type 0} → (A → Bool) → List A → Bool
@@ -34,11 +36,18 @@ at-below test (suc n) e (suc k) h =
 
 -- ---- the map of registers
 
--- the place of each row's address is the row's
-pub place-address : (d : Register) (k : ℕ) → k < 27 → place (getD registers k d .address) ≡ k
-unfolding place registers
-place-address d k h =
-    eqb-true (place (getD registers k d .address)) k (at-below (λ k. eqb (place (getD registers k d .address)) k) 27 refl k h)
+-- no address past the last has a place
+past-map : (a : ℕ) → 0x4f ≤ a → inMap a ≡ false
+unfolding inMap place
+past-map a h = rw (lt-leb a 0x27 (omega arith), lt-leb a 0x4e (omega arith), and-false (leb 0x1c a), and-false (leb 0x40 a)) refl
+
+-- each address of the map is that of the row at its place
+pub map-places : Map
+unfolding register place registers
+map-places a m =
+    by-test (ltb a 0x4f)
+    (λ e. eqb-true (register a .address) a (at-below (λ k. eqb (register k .address) k) 0x4f refl a (ltb-true a 0x4f e)))
+    (λ e. clash m (past-map a (ltb-false a 0x4f e)))
 
 -- Largest is a byte
 pub largest-byte : (a : ℕ) → largest a ≤ 255

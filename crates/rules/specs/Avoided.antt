@@ -1,22 +1,23 @@
--- The traps of document 01 and the cheap programs of "Every result is settled", avoided: for each a small case where the rules differ from the wrong ones.
+-- The traps of document 01 and the cheap programs of "Every result is settled", avoided, and a few more wrong
+-- rules: for each a small case in which the rules give something else.
 use Prim.Native.Nat.{ℕ}
 use mathlib.Core.Bool.{Bool, true, false}
 use mathlib.Core.List.{List, [], _∷_}
 use lib.IntN.{pos, negsuc}
 use lib.ListN.{replicate}
 use Rattle.rules.specs.Words.{if_then_else_}
-use Rattle.rules.specs.Events.{tick, write}
+use Rattle.rules.specs.Events.{tick, hit, write}
 use Rattle.rules.specs.Monitors.{Input, measured, fullSoak}
 use Rattle.rules.specs.Pll.{holdover, preLocked}
 use Rattle.rules.specs.Settings.{Settings}
-use Rattle.rules.specs.Selection.{Inputs, Choice, chosen, waitAfter, switches}
+use Rattle.rules.specs.Selection.{Inputs, Choice, settled, chosen, waitAfter, switches}
 use Rattle.rules.specs.History.{ready, withBlocks, value, freshHistory}
 use Rattle.rules.specs.State.{State, selected}
 use Rattle.rules.specs.Tick.{holdingAfter}
 use Rattle.rules.specs.Registers.{written, fresh}
-use Rattle.rules.specs.Reading.{hours, availableCount}
+use Rattle.rules.specs.Reading.{stateByte, read}
 use Rattle.rules.specs.Refusals.{refusal}
-use Rattle.rules.specs.Run.{next}
+use Rattle.rules.specs.Run.{next, run}
 use Rattle.rules.specs.Sheet.{check}
 use Rattle.rules.specs.Printout.{ascii, decimal, hexadecimal}
 use Rattle.rules.specs.Table.{Row, _is_, Holds}
@@ -36,10 +37,6 @@ clocks one two three = clock one ∷ clock two ∷ clock three ∷ replicate 5 (
 abbrev setting : ℕ → ℕ → ℕ → Settings
 setting delay first second = written 0x43 delay (written 0x1c first (written 0x1d second (written 0x40 1 (fresh .settings))))
 
--- selected, with no wait
-abbrev on : ℕ → Choice
-on c = record { selected = c; wait = 0; waitFor = 0 }
-
 -- three ticks waited for 2
 abbrev waiting : Choice
 waiting = record { selected = 3; wait = 3; waitFor = 2 }
@@ -50,8 +47,8 @@ unit set inputs =
     record { inputs = inputs; settings = set; loop = fresh .loop; choice = fresh .choice; history = fresh .history; holding = fresh .holding }
 
 -- in Holdover for so many ticks
-abbrev held : ℕ → State
-held n =
+abbrev inHoldover : ℕ → State
+inHoldover n =
     record {
       inputs = fresh .inputs;
       settings = fresh .settings;
@@ -70,10 +67,10 @@ table =
     -- "rounding the mean toward zero"
     ∷ value (withBlocks (negsuc 0 ∷ pos 0 ∷ []) freshHistory) is negsuc 0
     -- "reading bit 3 of the candidate, not of the selected": 1 is best, and revertive; 2 is selected, and not. Then the other way round.
-    ∷ chosen (setting 0 0b1000 0b0001) (clocks true true false) (on 2) .selected is 2
-    ∷ chosen (setting 0 0b0000 0b1001) (clocks true true false) (on 2) .selected is 1
+    ∷ chosen (setting 0 0b1000 0b0001) (clocks true true false) (settled 2) .selected is 2
+    ∷ chosen (setting 0 0b0000 0b1001) (clocks true true false) (settled 2) .selected is 1
     -- "equal priority taken as no reversion"
-    ∷ chosen (setting 0 0b0000 0b1000) (clocks true true false) (on 2) .selected is 1
+    ∷ chosen (setting 0 0b0000 0b1000) (clocks true true false) (settled 2) .selected is 1
     -- "carrying the wait over to another candidate"
     ∷ waitAfter 2 waiting is 4
     ∷ waitAfter 1 waiting is 1
@@ -81,12 +78,15 @@ table =
     ∷ switches 3 3 is false
     ∷ switches 3 4 is true
     -- "one that never reselects": 2 is lost
-    ∷ chosen (setting 0 0 0) (clocks false false true) (on 2) .selected is 3
-    ∷ chosen (setting 0 0 0) (clocks false false false) (on 2) .selected is 0
+    ∷ chosen (setting 0 0 0) (clocks false false true) (settled 2) .selected is 3
+    ∷ chosen (setting 0 0 0) (clocks false false false) (settled 2) .selected is 0
     -- "one fixed on input 1"
-    ∷ chosen (setting 0 0 0) (clocks false true false) (on 0) .selected is 2
+    ∷ chosen (setting 0 0 0) (clocks false true false) (settled 0) .selected is 2
+    -- "one that settles at the first tick and only copies its record later": 1 is selected, and lost by a Hit
+    ∷ stateByte (run (unit (setting 0 0 0) (clocks true false false)) (tick 0 false (pos 0) ∷ [])) is 0x21
+    ∷ stateByte (run (unit (setting 0 0 0) (clocks true false false)) (tick 0 false (pos 0) ∷ hit ∷ [])) is 0x00
     -- "one that takes the best unmasked input unjudged"
-    ∷ chosen (setting 0 0 0) (clocks false false false) (on 0) .selected is 0
+    ∷ chosen (setting 0 0 0) (clocks false false false) (settled 0) .selected is 0
     -- "one that refuses each event"
     ∷ refusal fresh (tick 0 false (pos 0)) is 0
     ∷ refusal fresh (write 0x40 1) is 0
@@ -97,11 +97,11 @@ table =
     ∷ ready (withBlocks (replicate 43 (pos 0)) freshHistory) is true
     ∷ ready (withBlocks (replicate 42 (pos 0)) freshHistory) is false
     -- "one with an invented 0x4e": 2 is masked
-    ∷ availableCount (unit (written 0x42 0b11111101 (fresh .settings)) (clocks true true true)) is 2
-    -- "or hour count": the entering tick is none in Holdover, and an hour has 28,125
+    ∷ read (unit (written 0x42 0b11111101 (fresh .settings)) (clocks true true true)) 0x4e .byte is 2
+    -- "or hour count": the entering tick does not count, and an hour has 28,125
     ∷ holdingAfter preLocked holdover 0 is 0
-    ∷ hours (held 28_124) is 0
-    ∷ hours (held 28_125) is 1
+    ∷ read (inHoldover 28_124) 0x27 .byte is 0
+    ∷ read (inHoldover 28_125) 0x27 .byte is 1
     -- 13 "output under 4 bytes a record"; digits in order, and lower-case
     ∷ check (0 ∷ 0 ∷ 1 ∷ 0 ∷ 2 ∷ replicate 7 0) 3 is 13
     ∷ decimal 105 is ascii "105"

@@ -7,6 +7,7 @@ use lib.IntN.{ℤ, pos, negsuc, _+ℤ_}
 use lib.Signed.{shrZ}
 use lib.ListN.{length, take}
 use Rattle.rules.specs.Words.{if_then_else_, isCounted}
+use Rattle.rules.specs.Events.{sampleLimit}
 
 pub record History : Type 0 where
   -- the kept block sums, newest first
@@ -55,7 +56,7 @@ openEmptied h = withBlocks (h .kept) h
 
 -- A sum within ±16,000,000,000, which 128 samples of at most 125,000,000 keep: from fresh this changes nothing (`Saturation` in Laws).
 abbrev pub sumLimit : ℕ
-sumLimit = 16_000_000_000
+sumLimit = blockSamples * sampleLimit
 
 unfoldable pub saturated : ℤ → ℤ
 saturated (pos n) = pos (min sumLimit n)

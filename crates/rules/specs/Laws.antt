@@ -12,12 +12,12 @@ use Rattle.rules.specs.Words.{if_then_else_, isInput, isTracked}
 use Rattle.rules.specs.Events.{Event, sampleLimit, isTick}
 use Rattle.rules.specs.Monitors.{Bucket, bucketOf, Input, fullSoak, qualified, alarmTicks}
 use Rattle.rules.specs.Pll.{modeNumber, holdover, is, Loop, lockTicks, unlockTicks}
-use Rattle.rules.specs.Settings.{Settings, automatic, reject, qualification, revertive, ahead, delayTicks}
+use Rattle.rules.specs.Settings.{Settings, automatic, reject, qualification, usable, revertive, ahead, delayTicks}
 use Rattle.rules.specs.Selection.{Inputs, input, Choice, available, candidate, best, settled, waitLimit, waitAfter, reverted, chosen}
 use Rattle.rules.specs.History.{History, blockSamples, keptBlocks, readyBlocks, ready, sumLimit, saturated, sumOf, value}
 use Rattle.rules.specs.State.{State, selected, mode}
-use Rattle.rules.specs.Tick.{holdingLimit}
-use Rattle.rules.specs.Registers.{largest, fresh}
+use Rattle.rules.specs.Tick.{hourTicks, holdingLimit}
+use Rattle.rules.specs.Registers.{inMap, register, largest, fresh}
 use Rattle.rules.specs.Reading.{hours, twos, read}
 use Rattle.rules.specs.Refusals.{accepted}
 use Rattle.rules.specs.Run.{next, run}
@@ -42,8 +42,8 @@ pub record SoundSettings (set : Settings) : Type 0 where
   pub largest-le : (a : ℕ) → set a ≤ largest a
   pub apart : qualification set + 6 ≤ reject set
 
--- lock run at most 16, unlock run at most 781; selected at most 9; the wait within the longest delay, 119,532 ticks, and 0 while nothing is selected;
--- a selected reference has one of the four tracking states (2 to 5), and nothing else has
+-- lock run at most 16, unlock run at most 781; selected at most 9; the wait within the longest delay, 119,532 ticks, and 0 while nothing is selected, and
+-- counting for none while it is 0; a selected reference has one of the four tracking states (2 to 5), and nothing else has
 pub record SoundLoop (p : Loop) (c : Choice) : Type 0 where
   pub lock-le : p .lockRun ≤ lockTicks
   pub unlock-lt : p .unlockRun < unlockTicks
@@ -64,7 +64,7 @@ pub record SoundBlocks (l : List ℤ) : Type 0 where
   pub count-le : length l ≤ keptBlocks
   pub within : Within l
 
--- at most 127 open samples, their sum no more than so many can have; the backup is none or 43 blocks and more
+-- at most 127 open samples, their sum no more than so many can have; a command of the map; the backup is none or 43 blocks or more
 pub record SoundHistory (h : History) : Type 0 where
   pub kept : SoundBlocks (h .kept)
   pub open-lt : h .openCount < blockSamples
@@ -110,7 +110,7 @@ heldTicks n s (e ∷ es) = heldTicks (heldAfter n s e) (next s e) es
 
 -- 0x27 shows the hours of that count
 abbrev pub Hours : Type 0
-Hours = (es : List Event) → hours (run fresh es) ≡ (if is holdover (mode (run fresh es)) then min 255 (heldTicks 0 fresh es / 28_125) else 0)
+Hours = (es : List Event) → hours (run fresh es) ≡ (if is holdover (mode (run fresh es)) then min 255 (heldTicks 0 fresh es / hourTicks) else 0)
 
 -- ---- selection
 
@@ -131,11 +131,14 @@ BestOf set inputs b =
 abbrev pub BestCandidate : Type 0
 BestCandidate = (set : Settings) (inputs : Inputs) → BestOf set inputs (best set inputs)
 
--- a candidate that is a reference is available: none is taken unjudged or masked
-abbrev pub Judged : Type 0
-Judged = (set : Settings) (inputs : Inputs) (c : ℕ) → isInput c ≡ true → candidate set inputs c ≡ true → available set inputs c ≡ true
+-- under automatic control what is selected is none, Free Run if enabled, or an available reference: none is taken unjudged or masked
+abbrev pub Eligible : Settings → Inputs → ℕ → Type 0
+Eligible set inputs c = (c ≡ 0) ⊎ (((c ≡ 9) × (usable set 9 ≡ true)) ⊎ (available set inputs c ≡ true))
 
--- what is selected is none, Free Run or a qualified reference
+abbrev pub Judged : Type 0
+Judged = (set : Settings) (inputs : Inputs) (c : Choice) → automatic set ≡ true → Eligible set inputs (chosen set inputs c .selected)
+
+-- under any control what is selected is none, Free Run or a qualified reference
 abbrev pub Selectable : Inputs → ℕ → Type 0
 Selectable inputs c = ((c ≡ 0) ⊎ (c ≡ 9)) ⊎ ((isInput c ≡ true) × (qualified (input inputs c) ≡ true))
 
@@ -160,11 +163,11 @@ pub record Floor (t : ℤ) (d : ℕ) (v : ℤ) : Type 0 where
   pub notAbove : (pos d *ℤ v) ≤ℤ t
   pub greatest : (z : ℤ) → (pos d *ℤ z) ≤ℤ t → z ≤ℤ v
 
--- of the mean of the kept samples, of which there are 128 in a block
+-- the value is that of the mean of the kept samples, 128 in a block
 abbrev pub Value : Type 0
 Value = (h : History) → 1 ≤ length (h .kept) → Floor (sumOf (h .kept)) (blockSamples * length (h .kept)) (value h)
 
--- and no greater in magnitude than a sample, so that 32 bits hold it
+-- and no greater in magnitude than the largest sample, so that 32 bits hold it
 abbrev pub ValueRange : Type 0
 ValueRange = (h : History) → 1 ≤ length (h .kept) → Within (h .kept) → natAbs (value h) ≤ sampleLimit
 
@@ -178,9 +181,13 @@ NotReady = ready (fresh .history) ≡ false
 
 -- ---- events and registers
 
--- "state unchanged": a refused event changes nothing
+-- what is "left" is "as before": a refused event changes nothing
 abbrev pub Refused : Type 0
 Refused = (s : State) (e : Event) → accepted s e ≡ false → next s e ≡ s
+
+-- the map has each address at its place
+abbrev pub Map : Type 0
+Map = (a : ℕ) → inMap a ≡ true → register a .address ≡ a
 
 -- each register is a byte
 abbrev pub Bytes : Type 0
@@ -226,6 +233,7 @@ pub record Laws : Type 0 where
   pub twosComplement : TwosComplement
   pub notReady : NotReady
   pub refused : Refused
+  pub map : Map
   pub bytes : Bytes
   pub outputs : Outputs
   pub outputKept : OutputKept

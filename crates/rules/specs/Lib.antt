@@ -1,4 +1,5 @@
--- Document 01 as definitions. Read in this order: each file is a section of the document, or a part of one.
+-- Document 01 as definitions, in reading order: Events to Printout are its sections or parts of them, over the words of Words.
+-- From Table on stand statements about the rules: the traps avoided, the laws, and last the promise of service.
 pub mod Words
 pub mod Events
 pub mod Monitors

@@ -9,6 +9,7 @@ use Rattle.rules.specs.Pll.{modeNumber, freeRun, holdover, locked, is}
 use Rattle.rules.specs.Selection.{input, available}
 use Rattle.rules.specs.History.{held, value}
 use Rattle.rules.specs.State.{State, selected, mode, Ready}
+use Rattle.rules.specs.Tick.{hourTicks}
 use Rattle.rules.specs.Registers.{inMap, readOnly}
 
 -- the mask of the inputs 1 to k that pass a test: "in every mask bit i−1 is input i"
@@ -34,7 +35,7 @@ availableCount s = countUpTo (available (s .settings) (s .inputs)) 8
 
 -- 0x27: "whole hours (28,125 ticks) in Holdover after the entering event, at most 255, else 0"
 unfoldable pub hours : State → ℕ
-hours s = if is holdover (mode s) then min 255 (s .holding / 28_125) else 0
+hours s = if is holdover (mode s) then min 255 (s .holding / hourTicks) else 0
 
 -- 0x48: "16 times state .. + selected"; selected has four bits, and from fresh is at most 9
 unfoldable pub stateByte : State → ℕ

@@ -56,11 +56,11 @@ bestUpTo set inputs (suc k) =
 unfoldable pub best : Settings → Inputs → ℕ
 best set inputs = bestUpTo set inputs 9
 
--- selected, with the wait at 0
+-- selected, with the wait at 0: "Any change of selection zeroes the wait."
 unfoldable pub settled : ℕ → Choice
 settled c = record { selected = c; wait = 0; waitFor = 0 }
 
--- one tick more than the longest delay, 255 minutes: the wait stops here, and from fresh it never comes so far (`Saturation` in Laws)
+-- one tick more than the longest delay, 255 minutes: the wait stops here, and from fresh it never comes past it (`Saturation` in Laws)
 abbrev pub waitLimit : ℕ
 waitLimit = 119_533
 

@@ -48,7 +48,7 @@ pub record Preferred (r : ℕ) (set : Settings) : Type 0 where
 
 -- ---- the events from the moment on
 
--- of what counts as a write: it is turned down
+-- what is asked of a write: it is turned down
 abbrev pub TurnedDown : State → Event → Type 0
 TurnedDown s e = accepted s e ≡ false
 
@@ -79,7 +79,7 @@ pub record Provisos (r : ℕ) (s : State) (events : List Event) : Type 0 where
 
 -- ---- the numbers
 
--- until the lock alarm's remainder and the bucket of a clock that behaves have run out, whichever is later (782)
+-- until the lock alarm's remainder is 0 and the level of a clock that behaves has fallen to the clear level, whichever is later (782)
 abbrev pub settleTicks : Bucket → ℕ
 settleTicks b = max alarmTicks ((b .size - b .clearLevel) * b .decayTicks)
 
@@ -111,7 +111,7 @@ acceptedTicks s (e ∷ es) = (if isTick e && accepted s e then 1 else 0) + accep
 
 -- ---- the promise
 
--- what is promised of a later state, where s is the state at the moment and `after` the events that have come since
+-- what is promised of a state `now` that `after`, or more events, have led to from the moment, whose state is s
 pub record Served (r : ℕ) (s : State) (after : List Event) (now : State) : Type 0 where
   pub selected-is : selectedTicks r s ≤ acceptedTicks s after → selected now ≡ r
   pub ready-is : readyTicks r s ≤ acceptedTicks s after → Ready now ≡ true

@@ -35,7 +35,7 @@ priority set c = set (0x1b + c) % 8
 unfoldable pub revertive : Settings → ℕ → Bool
 revertive set c = bit (set (0x1b + c)) 3
 
--- 0x42: "mask (a set bit = usable)"; 0x24: "Free Run: bit 4 enabled"
+-- 0x42, mask: "a set bit = usable"; 0x24: "Free Run: bit 4 enabled"
 unfoldable pub usable : Settings → ℕ → Bool
 usable set c = if eqb c 9 then bit (set 0x24) 4 else (isInput c && bitOf (set 0x42) c)
 

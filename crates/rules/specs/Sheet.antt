@@ -71,7 +71,7 @@ decode l = if eqb (getD l 3 0) 0 then fields (getD l 0 0) (getD l 1 0) (getD l 2
 
 -- ---- the sections
 
--- A section is a "16-bit count and that many" items of one length. Here it starts at a place of the sheet: its count, and where it ends.
+-- A section is a "16-bit count and that many" items of one length; `at` is where it starts. Its count, and where it ends.
 abbrev pub countAt : List ℕ → ℕ → ℕ
 countAt s at = word16 s at
 

@@ -1,5 +1,5 @@
 -- A tick: its five steps in order.
-use Prim.Native.Nat.{ℕ, _+_, min}
+use Prim.Native.Nat.{ℕ, _+_, _*_, min}
 use mathlib.Core.Bool.{Bool, _&&_}
 use lib.IntN.{ℤ}
 use Rattle.rules.specs.Words.{if_then_else_, bitOf, isTracked}
@@ -24,11 +24,14 @@ inputsAfter mask lock s =
     if isTracked (selected s) && alarmDue (loopAfter lock s) then altered lockAlarmed (selected s) (watched mask (s .inputs))
     else watched mask (s .inputs)
 
--- 255 hours of 28,125 ticks: the count stops here, and 0x27 shows no more than 255 (`Hours` in Laws)
-abbrev pub holdingLimit : ℕ
-holdingLimit = 7_171_875
+-- "whole hours (28,125 ticks) in Holdover after the entering event, at most 255": the count stops at 255 hours (`Hours` in Laws)
+abbrev pub hourTicks : ℕ
+hourTicks = 28_125
 
--- the ticks in Holdover "after the entering event": the tick that enters does not count
+abbrev pub holdingLimit : ℕ
+holdingLimit = 255 * hourTicks
+
+-- the ticks in Holdover: the tick that enters does not count
 unfoldable pub holdingAfter : Mode → Mode → ℕ → ℕ
 holdingAfter before after holding = if is holdover before && is holdover after then min holdingLimit (holding + 1) else 0
 
