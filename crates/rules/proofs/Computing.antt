@@ -24,7 +24,7 @@ unfolding
     Pll.modeNumber Pll.unlocked Pll.looped Pll.alarmDue
     Settings.priority Settings.revertive Settings.usable Settings.ahead Settings.delayTicks
     Selection.altered Selection.eachFrom Selection.available Selection.candidate Selection.bestUpTo Selection.best Selection.settled
-    Selection.waitAfter Selection.switches Selection.reverted Selection.reselected Selection.manual Selection.chosen Selection.unselectedMode
+    Selection.waitAfter Selection.switches Selection.reverted Selection.reselected Selection.manual Selection.chosen Selection.unselectedMode Selection.unselectedLoop
     Selection.modeAfter Selection.steered
     History.ready History.held History.refilled History.withBlocks History.openEmptied History.saturated History.sampled History.withLast
     History.noted History.recorded History.sumOf History.value History.backedUp History.withCommand History.commanded History.freshHistory

@@ -14,8 +14,8 @@ use Rattle.rules.specs.Events.{Event, tick, measurement, hit, write, sam
 use Rattle.rules.specs.Monitors.{bucketOf, unsoaked, freshInput}
 use Rattle.rules.specs.Pll.{Mode, freeRun, holdover, modeNumber, is}
 use Rattle.rules.specs.Settings.{Settings, reject, qualification}
-use Rattle.rules.specs.Selection.{settled, unselectedMode}
-use Rattle.rules.specs.History.{History, freshHistory}
+use Rattle.rules.specs.Selection.{settled, unselectedMode, unselectedLoop}
+use Rattle.rules.specs.History.{History, freshHistory, held}
 use Rattle.rules.specs.State.{State, selected, Ready}
 use Rattle.rules.specs.Tick.{holdingLimit, holdingAfter, steps1to4, step5, ticked}
 use Rattle.rules.specs.Registers.{place, inMap, registers, register, readOnly, largest, stored, written, settingsFrom, freshFrom, freshTable, fresh}
@@ -34,13 +34,13 @@ use Rattle.rules.proofs.SoundHistory.{no-blocks, sound-emptied, sum-kep
 -- what an accepted write has passed
 pub record WriteAllowed (s : State) (a v : ℕ) : Type 0 where
   pub small : v ≤ largest a
-  pub limits : limitsRefused s a v ≡ false
-  pub command : (eqb a 0x26 && commandRefused s v) ≡ false
+  pub limits : limitsRefused (s .settings) a v ≡ false
+  pub command : (eqb a 0x26 && commandRefused (Ready s) (held (s .history .backup)) v) ≡ false
 
 pub write-allowed : (s : State) (a v : ℕ) → accepted s (write a v) ≡ true → WriteAllowed s a v
 unfolding refusal writeRefusal
 write-allowed s a v e =
-    let first = unrefused (not (inMap a)) 0 _ (eqb-true (writeRefusal s a v) 0 e) in
+    let first = unrefused (not (inMap a)) 0 _ (eqb-true (writeRefusal (s .settings) (Ready s) (held (s .history .backup)) a v) 0 e) in
     let second = unrefused (readOnly a) 1 _ (first .1) in
     let third = unrefused _ 2 _ (second .1) in
     let fourth = unrefused _ 3 _ (third .1) in
@@ -121,7 +121,7 @@ lawful-measurement i x s r w =
     }
 
 lawful-hit : (s : State) → isTracked (selected s) ≡ true → Lawful s → Lawful (afterHit s)
-unfolding afterHit settled unselectedMode modeNumber
+unfolding afterHit settled unselectedMode unselectedLoop modeNumber
 lawful-hit s r w =
     record {
       inputs = sound-altered unsoaked (selected s) (s .inputs) (λ j. sound-unsoaked (bucketOf j) bucket-works) r (w .inputs);
@@ -150,7 +150,7 @@ lawful-write a v s ok w =
     small e = subst (λ n. v ≤ largest n) (eqb-true a 0x26 e) (ok .small)
 
     allowed : eqb a 0x26 ≡ true → v ≡ 1 → Ready s ≡ true
-    allowed e z = by-test (Ready s) (λ r. r) (λ r. clash {b = eqb a 0x26 && commandRefused s v} (rw (e, z, r) refl) (ok .command))
+    allowed e z = by-test (Ready s) (λ r. r) (λ r. clash {b = eqb a 0x26 && commandRefused (Ready s) (held (s .history .backup)) v} (rw (e, z, r) refl) (ok .command))
 
 pub lawful-next : (s : State) (e : Event) → Lawful s → Lawful (next s e)
 unfolding next effect refusal

@@ -13,7 +13,7 @@ use Rattle.rules.specs.Words.{if_then_else_, bitOf, isInput, isTracked, 
 use Rattle.rules.specs.Events.{Event, tick, measurement, hit, write, isTick}
 use Rattle.rules.specs.Monitors.{bucketOf, Input, monitored, measured, unsoaked, lockAlarmed, qualified}
 use Rattle.rules.specs.Pll.{locked, is, modeNumber, Loop, lockTicks, looped, alarmDue}
-use Rattle.rules.specs.Settings.{Settings, policy, automatic, reject, qualification, priority, usable, revertive, ahead, reversion}
+use Rattle.rules.specs.Settings.{Settings, policy, automatic, reject, qualification, priority, usable, revertive, ahead, reversion, opMode}
 use Rattle.rules.specs.Selection.{Inputs, input, altered, Choice, available, candidate, settled, waitLimit, reselected, chosen, modeAfter, steered}
 use Rattle.rules.specs.History.{History, blockSamples, keptBlocks, readyBlocks, refilled, withBlocks, saturated, sampled, withLast, noted, recorded}
 use Rattle.rules.specs.State.{State, selected, mode, Ready}
@@ -132,20 +132,20 @@ serving-less i j p h l (inr q) = inr (q .0, less (q .1))
 -- the loop after steps 3 and 4 of a tick that reports lock, where r was and stays selected
 module _ (set : Settings) (rd : Bool) (r : ℕ) (p : Loop) (ref : isTracked r ≡ true) where
   loop-same : (before after : ℕ) (lock : Bool) → before ≡ r → after ≡ r → lock ≡ true
-      → steered set rd before after (if isTracked before then looped lock p else p) ≡ steered set rd r r (looped true p)
+      → steered (automatic set) (opMode set) rd before after (if isTracked before then looped lock p else p) ≡ steered (automatic set) (opMode set) rd r r (looped true p)
   loop-same before after lock b a l = rw (b, a, l, ref) refl
 
-  loop-run : steered set rd r r (looped true p) .lockRun ≡ min lockTicks (p .lockRun + 1)
+  loop-run : steered (automatic set) (opMode set) rd r r (looped true p) .lockRun ≡ min lockTicks (p .lockRun + 1)
   unfolding steered looped
   loop-run = rw (eq-eqb r r refl) refl
 
-  loop-mode : automatic set ≡ true → lockTicks - 1 ≤ p .lockRun → steered set rd r r (looped true p) .mode ≡ locked
+  loop-mode : automatic set ≡ true → lockTicks - 1 ≤ p .lockRun → steered (automatic set) (opMode set) rd r r (looped true p) .mode ≡ locked
   unfolding steered looped modeAfter
   loop-mode auto l =
       rw (auto, ne-eqb r 9 (λ z. omega (arith, high 1 8 r ref)), ne-eqb r 0 (λ z. omega (arith, low 1 8 r ref)), eq-eqb r r refl, eq-eqb (min lockTicks (p .lockRun + 1)) lockTicks (omega arith)) refl
 
   serving-tick : (j pol : ℕ) (x : ℤ) (h : History) → automatic set ≡ true → h .last ≡ r → h .openCount < blockSamples → Serving j p h
-      → (q : Loop) → q ≡ steered set rd r r (looped true p) → Serving (suc j) q (recorded pol r (is locked (q .mode)) x h)
+      → (q : Loop) → q ≡ steered (automatic set) (opMode set) rd r r (looped true p) → Serving (suc j) q (recorded pol r (is locked (q .mode)) x h)
   unfolding modeNumber
   serving-tick j pol x h auto last few s q e = go s
     where
@@ -273,7 +273,7 @@ going-tick n r k mask lock x s ref g after reg locks =
         (serving-tick (s .settings) (Ready s) r (s .loop) ref (k - (Q + n)) (policy (s .settings)) x (s .history) (g .auto)
         (g .lawful .last (ap isTracked e ∙ ref) ∙ e) (g .lawful .history .open-lt) sv L here)))
       where
-        here : L ≡ steered (s .settings) (Ready s) r r (looped true (s .loop))
+        here : L ≡ steered (automatic (s .settings)) (opMode (s .settings)) (Ready s) r r (looped true (s .loop))
         here = loop-same (s .settings) (Ready s) r (s .loop) ref (selected s) (D .selected) lock e t (locks e)
 
     go : phaseOf n r k s → Phase Q n r (suc k) D L H

@@ -105,20 +105,20 @@ not-selectable inputs r t q (inl (inr z)) = omega (arith, high 1 8 r t)
 not-selectable inputs r t q (inr w) = clash (w .1) q
 
 -- the state after a choice: a newly selected or kept reference has a tracking state, and nothing else has
-mode-tracking : (set : Settings) (rd : Bool) (before next : ℕ) (m : Mode) → isTracked next ≡ true → (not (automatic set) && eqb (opMode set) 0) ≡ false
-    → (before ≡ next → 2 ≤ modeNumber m) → 2 ≤ modeNumber (modeAfter set rd before next m)
+mode-tracking : (control : Bool) (op : ℕ) (rd : Bool) (before next : ℕ) (m : Mode) → isTracked next ≡ true → (not control && eqb op 0) ≡ false
+    → (before ≡ next → 2 ≤ modeNumber m) → 2 ≤ modeNumber (modeAfter control op rd before next m)
 unfolding modeAfter modeNumber
-mode-tracking set rd before next m t off kept =
+mode-tracking control op rd before next m t off kept =
     rw (off, ne-eqb next 9 (λ z. omega (arith, high 1 8 next t)), ne-eqb next 0 (λ z. omega (arith, low 1 8 next t)))
     (if-case (λ (x : Mode). 2 ≤ modeNumber x) (eqb next before) (λ e. kept (sym (eqb-true next before e)))
     (λ e. if-case (λ (x : Mode). 2 ≤ modeNumber x) (is freeRun m) (λ u. omega arith) (λ u. omega arith)))
 
-mode-resting : (set : Settings) (rd : Bool) (before next : ℕ) (m : Mode) → (next ≡ 0) ⊎ (next ≡ 9) → modeNumber (modeAfter set rd before next m) ≤ 1
+mode-resting : (control : Bool) (op : ℕ) (rd : Bool) (before next : ℕ) (m : Mode) → (next ≡ 0) ⊎ (next ≡ 9) → modeNumber (modeAfter control op rd before next m) ≤ 1
 unfolding modeAfter unselectedMode modeNumber
-mode-resting set rd before next m (inl z) =
-    if-case (λ (x : Mode). modeNumber x ≤ 1) ((not (automatic set) && eqb (opMode set) 0) || eqb next 9) (λ e. omega arith)
+mode-resting control op rd before next m (inl z) =
+    if-case (λ (x : Mode). modeNumber x ≤ 1) ((not control && eqb op 0) || eqb next 9) (λ e. omega arith)
     (λ e. rw (eq-eqb next 0 z) (if-case (λ (x : Mode). modeNumber x ≤ 1) rd (λ r. omega arith) (λ r. omega arith)))
-mode-resting set rd before next m (inr z) = rw (eq-eqb next 9 z, or-true (not (automatic set) && eqb (opMode set) 0)) (omega arith)
+mode-resting control op rd before next m (inr z) = rw (eq-eqb next 9 z, or-true (not control && eqb op 0)) (omega arith)
 
 -- a selected number that is no reference is 0 or 9
 untracked : (c : ℕ) → c ≤ 9 → isTracked c ≡ false → (c ≡ 0) ⊎ (c ≡ 9)
@@ -154,7 +154,7 @@ module _ (mask : ℕ) (lock : Bool) (s : State) (w : Lawful s) where
   unfolding loopAfter
   tracking-before e = rw e (looped-tracking lock (s .loop) (w .loop .tracking e))
 
-  pub sound-loop : SoundLoop (steered (s .settings) (Ready s) (selected s) (choiceAfter mask lock s .selected) (loopAfter lock s)) (choiceAfter mask lock s)
+  pub sound-loop : SoundLoop (steered (automatic (s .settings)) (opMode (s .settings)) (Ready s) (selected s) (choiceAfter mask lock s .selected) (loopAfter lock s)) (choiceAfter mask lock s)
   unfolding steered
   sound-loop =
       record {
@@ -164,8 +164,8 @@ module _ (mask : ℕ) (lock : Bool) (s : State) (w : Lawful s) where
         wait-lt = sound .wait-lt;
         unselected = sound .unselected;
         unwaited = sound .unwaited;
-        tracking = λ t. mode-tracking (s .settings) (Ready s) (selected s) N (loopAfter lock s .mode) t (on t) (λ e. tracking-before (ap isTracked e ∙ t));
-        resting = λ t. mode-resting (s .settings) (Ready s) (selected s) N (loopAfter lock s .mode) (untracked N (sound .selected-le) t);
+        tracking = λ t. mode-tracking (automatic (s .settings)) (opMode (s .settings)) (Ready s) (selected s) N (loopAfter lock s .mode) t (on t) (λ e. tracking-before (ap isTracked e ∙ t));
+        resting = λ t. mode-resting (automatic (s .settings)) (opMode (s .settings)) (Ready s) (selected s) N (loopAfter lock s .mode) (untracked N (sound .selected-le) t);
       }
     where
       N : ℕ

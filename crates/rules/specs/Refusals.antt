@@ -14,21 +14,21 @@ use Rattle.rules.specs.Registers.{inMap, readOnly, largest, written}
 unfoldable pub limitsApart : Settings → Bool
 limitsApart set = leb (qualification set + 6) (reject set)
 
-unfoldable pub limitsRefused : State → ℕ → ℕ → Bool
-limitsRefused s a v = (eqb a 0x44 || eqb a 0x45) && not (limitsApart (written a v (s .settings)))
+unfoldable pub limitsRefused : Settings → ℕ → ℕ → Bool
+limitsRefused set a v = (eqb a 0x44 || eqb a 0x45) && not (limitsApart (written a v set))
 
 -- 8: "command 1 unless Ready, command 2 without backup"
-unfoldable pub commandRefused : State → ℕ → Bool
-commandRefused s v = (eqb v 1 && not (Ready s)) || (eqb v 2 && not (held (s .history .backup)))
+unfoldable pub commandRefused : Bool → Bool → ℕ → Bool
+commandRefused isReady isHeld v = (eqb v 1 && not isReady) || (eqb v 2 && not isHeld)
 
--- 1: "address not in the map"; 2: "write to R"; 3: "value above Largest"
-unfoldable pub writeRefusal : State → ℕ → ℕ → ℕ
-writeRefusal s a v =
+-- 1: "address not in the map"; 2: "write to R"; 3: "value above Largest". `isReady` says that Ready stands, `isHeld` that a backup is held.
+unfoldable pub writeRefusal : Settings → Bool → Bool → ℕ → ℕ → ℕ
+writeRefusal set isReady isHeld a v =
     if not (inMap a) then 1
     else (if readOnly a then 2
     else (if ltb (largest a) v then 3
-    else (if limitsRefused s a v then 4
-    else (if eqb a 0x26 && commandRefused s v then 8
+    else (if limitsRefused set a v then 4
+    else (if eqb a 0x26 && commandRefused isReady isHeld v then 8
     else 0))))
 
 -- 5: "Hit with no reference 1 to 8 selected"; 6: "input not 1 to 8"; 7: "sample out of range"; 0 where the event is accepted
@@ -36,7 +36,7 @@ unfoldable pub refusal : State → Event → ℕ
 refusal s (tick mask lock x) = if leb (natAbs x) sampleLimit then 0 else 7
 refusal s (measurement i offset) = if isInput i then 0 else 6
 refusal s hit = if isTracked (selected s) then 0 else 5
-refusal s (write a v) = writeRefusal s a v
+refusal s (write a v) = writeRefusal (s .settings) (Ready s) (held (s .history .backup)) a v
 
 -- "An accepted event is one not turned down."
 abbrev pub accepted : State → Event → Bool

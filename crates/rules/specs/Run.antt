@@ -7,7 +7,7 @@ use Rattle.rules.specs.Words.{if_then_else_}
 use Rattle.rules.specs.Events.{Event, tick, measurement, hit, write}
 use Rattle.rules.specs.Monitors.{measured, unsoaked}
 use Rattle.rules.specs.Settings.{reject, qualification}
-use Rattle.rules.specs.Selection.{altered, settled, unselectedMode}
+use Rattle.rules.specs.Selection.{altered, settled, unselectedLoop}
 use Rattle.rules.specs.History.{openEmptied, commanded}
 use Rattle.rules.specs.State.{State, selected, Ready}
 use Rattle.rules.specs.Tick.{ticked}
@@ -32,7 +32,7 @@ afterHit s =
     record {
       inputs = altered unsoaked (selected s) (s .inputs);
       settings = s .settings;
-      loop = record { mode = unselectedMode (Ready s); lockRun = 0; unlockRun = 0 };
+      loop = unselectedLoop (Ready s);
       choice = settled 0;
       history = openEmptied (s .history);
       holding = 0;

@@ -102,21 +102,25 @@ chosen set inputs c = if automatic set then reselected set inputs (best set inpu
 unfoldable pub unselectedMode : Bool → Mode
 unselectedMode ready = if ready then holdover else freeRun
 
--- The state where `before` was selected and `next` now is. "Op_Mode 0 in manual, or selected 9, is Free Run. Else selected 0 is Holdover if Ready, otherwise
+-- both runs 0, and the state by Ready: a Hit leaves the loop so
+unfoldable pub unselectedLoop : Bool → Loop
+unselectedLoop ready = record { mode = unselectedMode ready; lockRun = 0; unlockRun = 0 }
+
+-- The state where `before` was selected and `next` now is; `control` says automatic, and `op` is Op_Mode. "Op_Mode 0 in manual, or selected 9, is Free Run. Else selected 0 is Holdover if Ready, otherwise
 -- Free Run. A newly selected reference starts Pre-locked if the state was Free Run, else Pre-locked 2."
-unfoldable pub modeAfter : Settings → Bool → ℕ → ℕ → Mode → Mode
-modeAfter set ready before next mode =
-    if (not (automatic set) && eqb (opMode set) 0) || eqb next 9 then freeRun
+unfoldable pub modeAfter : Bool → ℕ → Bool → ℕ → ℕ → Mode → Mode
+modeAfter control op ready before next mode =
+    if (not control && eqb op 0) || eqb next 9 then freeRun
     else (if eqb next 0 then unselectedMode ready
     else (if eqb next before then mode
     else (if is freeRun mode then preLocked
     else preLocked2)))
 
 -- "Both runs restart at 0 when the selection changes."
-unfoldable pub steered : Settings → Bool → ℕ → ℕ → Loop → Loop
-steered set ready before next p =
+unfoldable pub steered : Bool → ℕ → Bool → ℕ → ℕ → Loop → Loop
+steered control op ready before next p =
     record {
-      mode = modeAfter set ready before next (p .mode);
+      mode = modeAfter control op ready before next (p .mode);
       lockRun = if eqb next before then p .lockRun else 0;
       unlockRun = if eqb next before then p .unlockRun else 0;
     }

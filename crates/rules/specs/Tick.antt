@@ -5,7 +5,7 @@ use lib.IntN.{ℤ}
 use Rattle.rules.specs.Words.{if_then_else_, bitOf, isTracked}
 use Rattle.rules.specs.Monitors.{bucketOf, monitored, lockAlarmed}
 use Rattle.rules.specs.Pll.{Mode, holdover, locked, is, Loop, looped, alarmDue}
-use Rattle.rules.specs.Settings.{policy}
+use Rattle.rules.specs.Settings.{policy, automatic, opMode}
 use Rattle.rules.specs.Selection.{Inputs, altered, eachFrom, chosen, steered}
 use Rattle.rules.specs.History.{recorded}
 use Rattle.rules.specs.State.{State, selected, mode, Ready}
@@ -40,7 +40,7 @@ unfoldable pub steps1to4 : ℕ → Bool → State → State
 steps1to4 mask lock s =
     let inputs = inputsAfter mask lock s in
     let choice = chosen (s .settings) inputs (s .choice) in
-    let loop = steered (s .settings) (Ready s) (selected s) (choice .selected) (loopAfter lock s) in
+    let loop = steered (automatic (s .settings)) (opMode (s .settings)) (Ready s) (selected s) (choice .selected) (loopAfter lock s) in
     record {
       inputs = inputs;
       settings = s .settings;
