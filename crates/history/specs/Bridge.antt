@@ -1,0 +1,47 @@
+-- From the code's tally and sums to the rules' history.
+use Prim.Native.Nat.{ℕ}
+use mathlib.Core.Path.{_≡_}
+use mathlib.Core.List.{List, _∷_, map}
+use lib.IntN.{ℤ}
+use lib.ListN.{take}
+use Rattle.rules.specs.Words.{if_then_else_}
+use Rattle.rules.specs.History.{History, saturated}
+use Rattle.history.specs.declared.Tally.{Tally}
+use Rattle.history.specs.declared.Update.{Update}
+use Rattle.history.specs.declared.History as code
+
+-- The first `count` of the stored sums, or all where there are fewer. A sum past ±16,000,000,000, which no history makes, is read as that bound.
+unfoldable pub keptOf : List ℤ → ℕ → List ℤ
+keptOf sums count = map saturated (take count sums)
+
+-- THE BRIDGE: the history that a tally is, with the kept sums and the backup's
+abbrev pub historyOf : Tally → List ℤ → List ℤ → History
+historyOf t sums backup =
+    record {
+      kept = keptOf sums (t .count);
+      openSum = saturated (t .open);
+      openCount = t .filled;
+      last = t .last;
+      command = t .command;
+      backup = keptOf backup (t .backed);
+    }
+
+-- the history that the whole struct is
+abbrev pub wholeOf : code.History → History
+wholeOf h = historyOf (h .tally) (h .sums) (h .backup)
+
+-- the 64 sums with a new one first
+abbrev pub pushed : ℤ → List ℤ → List ℤ
+pushed x sums = x ∷ take 63 sums
+
+-- the kept sums after an update: a completed block's sum is pushed
+abbrev pub sumsAfter : Update → List ℤ → List ℤ
+sumsAfter u sums = if u .done then pushed (u .sum) sums else sums
+
+-- From tally t to tally r is the rule's step, whatever the sums are; they stay.
+abbrev pub Steps : Tally → Tally → (History → History) → Type 0
+Steps t r rule = (sums backup : List ℤ) → historyOf r sums backup ≡ rule (historyOf t sums backup)
+
+-- From tally t to update u is the rule's step, whatever the sums are.
+abbrev pub Updates : Tally → Update → (History → History) → Type 0
+Updates t u rule = (sums backup : List ℤ) → historyOf (u .tally) (sumsAfter u sums) backup ≡ rule (historyOf t sums backup)

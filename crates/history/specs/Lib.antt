@@ -1,0 +1,3 @@
+-- From the code's structs to the rules.
+pub mod Signed
+pub mod Bridge

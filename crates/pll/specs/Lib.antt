@@ -1,0 +1,2 @@
+-- The PLL's state as the code keeps it.
+pub mod Bridge

@@ -1,0 +1,12 @@
+-- `in_map` meets its contract, by what `place` ensures.
+use borrow.Author.Needs.{needs}
+use Rattle.rules.specs.Registers as map
+use Rattle.registers.proofs.in_map.Statement.{statement}
+use Rattle.registers.proofs.in_map.Tie as tie
+
+returns : tie.Need-returns
+unfolding map.inMap
+returns c = rw (c .place .ensures)
+
+pub in-map-spec : {M : Type 1} → statement M
+in-map-spec = tie.close (tie.spec (search needs) returns)

@@ -1,0 +1,18 @@
+-- `setting` meets its contract, by what `place` ensures: past the 27 registers there is nothing.
+use mathlib.Core.Path.{sym}
+use native.Mathlib.Omega.{arith}
+use borrow.Author.Needs.{needs}
+use Rattle.rules.specs.Registers as map
+use Rattle.registers.proofs.Places.{setting-outside}
+use Rattle.registers.proofs.setting.Statement.{statement}
+use Rattle.registers.proofs.setting.Tie as tie
+
+returns : tie.Need-returns
+unfolding map.settingsFrom
+returns c = rw (c .before .place .ensures)
+
+returns-2 : tie.Need-returns-2
+returns-2 c = sym (setting-outside (c .before .before .args .t1) (c .before .before .args .a) (search needs) (omega arith))
+
+pub setting-spec : {M : Type 1} → statement M
+setting-spec = tie.close (tie.spec (search needs) (search needs) returns returns-2)

@@ -1,0 +1,16 @@
+-- `stored` meets its contract, by the two sides of its test.
+use borrow.Author.Tests.{le-leb, lt-leb}
+use Rattle.rules.specs.Registers as map
+use Rattle.registers.proofs.stored.Statement.{statement}
+use Rattle.registers.proofs.stored.Tie as tie
+
+returns : tie.Need-returns
+unfolding map.stored
+returns c = rw (le-leb _ _ (c .if1 .taken))
+
+returns-2 : tie.Need-returns-2
+unfolding map.stored
+returns-2 c = rw (lt-leb _ _ (c .if1 .left))
+
+pub stored-spec : {M : Type 1} → statement M
+stored-spec = tie.close (tie.spec returns returns-2)

@@ -1,0 +1,2 @@
+-- The registers as the code keeps them.
+pub mod Bridge
