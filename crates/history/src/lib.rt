@@ -6,11 +6,12 @@ ghost use Prim.Native.Nat.{_*_, _/_, _^_, _<_, min};
 ghost use lib.IntN.{ℤ, _+ℤ_};
 ghost use lib.ListN.{length};
 ghost use lib.Signed.{shrZ};
-ghost use Rattle.rules.specs.Words.{isCounted};
 ghost use Rattle.rules.specs.History.{ready, held, saturated, withBlocks, openEmptied, sampled, noted, recorded, sumOf, value, commanded, freshHistory};
 ghost use Rattle.rules.specs.Reading.{twos};
 ghost use Rattle.history.specs.Signed.{signed};
 ghost use Rattle.history.specs.Bridge.{keptOf, historyOf, wholeOf, pushed, Steps, Updates};
+use arith::least;
+use arith::one_to_eight;
 
 // What a tick changes of the history.
 #[repr(C)]
@@ -120,13 +121,6 @@ pub fn twos(z: i64) -> u32
     low as u32
 }
 
-// The lesser of two numbers.
-fn least(a: u16, b: u16) -> u16
-    ensures { λ r. ⌜ r ≡ min a b ⌝ }
-{
-    if a < b { a } else { b }
-}
-
 // ---- step 5
 
 // `ready`: 43 blocks or more are kept.
@@ -196,21 +190,11 @@ fn emptied(t: Tally) -> Tally
     next
 }
 
-// `isCounted`: a reference 1 to 8.
-fn is_counted(c: u8) -> bool
-    ensures { λ r. ⌜ r ≡ isCounted c ⌝ }
-{
-    if c < 1 {
-        return false;
-    }
-    c <= 8
-}
-
 // `noted`: a reference is noted as the one selected last; with policy 0, another than the last one empties blocks and open block first.
 fn noted(policy: u8, selected: u8, t: Tally) -> Tally
     ensures { λ r. ⌜ Steps t r (noted policy selected) ⌝ }
 {
-    let counts = is_counted(selected);
+    let counts = one_to_eight(selected);
     if counts {
         let mut next = t;
         next.last = selected;

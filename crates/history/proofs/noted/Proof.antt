@@ -11,7 +11,7 @@ returns c sums backup =
     let b = c .before .before in
     let a = b .before .before .before .args in
     rw (
-      ← b .before .before .is-counted .ensures,
+      ← b .before .before .one-to-eight .ensures,
       b .before .if1 .taken,
       eq-eqb (a .policy) 0 (b .if2 .taken),
       eq-eqb (a .selected) (a .t .last) (c .if3 .taken),
@@ -23,7 +23,7 @@ returns-2 c sums backup =
     let b = c .before .before .before in
     let a = b .before .before .before .args in
     rw (
-      ← b .before .before .is-counted .ensures,
+      ← b .before .before .one-to-eight .ensures,
       b .before .if1 .taken,
       eq-eqb (a .policy) 0 (b .if2 .taken),
       ne-eqb (a .selected) (a .t .last) (c .before .if3 .left),
@@ -34,14 +34,14 @@ returns-3 : tie.Need-returns-3
 unfolding noted withLast
 returns-3 c sums backup =
     rw (
-      ← c .before .before .is-counted .ensures,
+      ← c .before .before .one-to-eight .ensures,
       c .before .if1 .taken,
       ne-eqb (c .before .before .before .args .policy) 0 (c .if2 .left),
     )
 
 returns-4 : tie.Need-returns-4
 unfolding noted
-returns-4 c sums backup = rw (← c .before .is-counted .ensures, c .if1 .left)
+returns-4 c sums backup = rw (← c .before .one-to-eight .ensures, c .if1 .left)
 
 pub noted-spec : {M : Type 1} → statement M
 noted-spec = tie.close (tie.spec (search needs) returns (search needs) returns-2 returns-3 returns-4)

@@ -1,0 +1,2 @@
+-- Laws that several crates' proofs use. The functions need no file.
+pub mod Laws

@@ -1,0 +1,43 @@
+-- Each weight is that of its test; the rule adds 0 at the end.
+use Prim.Native.Nat.{_+_}
+use mathlib.Core.Path.{sym, _∙_}
+use Rattle.rules.specs.Words.{if_then_else_}
+use native.Mathlib.Nat.{add-zero}
+use Rattle.rules.specs.Reading.{maskUpTo}
+use borrow.Author.Needs.{needs}
+use Rattle.arith.proofs.mask_of.Statement.{statement}
+use Rattle.arith.proofs.mask_of.Tie as tie
+
+returns : tie.Need-returns
+unfolding maskUpTo
+returns c =
+    let b = c .before in
+    let d = b .before in
+    let e = d .before in
+    let f = e .before in
+    let g = f .before in
+    let h = g .before in
+    let last = c .weigh8 .ensures .0 ∙ sym (add-zero (if h .before .before .args .a then 1 else 0)) in
+    λ i. h .before .weigh .ensures .0 i + (h .weigh2 .ensures .0 i + (g .weigh3 .ensures .0 i + (f .weigh4 .ensures .0 i
+    + (e .weigh5 .ensures .0 i + (d .weigh6 .ensures .0 i + (b .weigh7 .ensures .0 i + last i))))))
+
+pub mask-of-spec : {M : Type 1} → statement M
+mask-of-spec =
+    tie.close
+    (tie.spec
+    (λ c κs. tt)
+    (λ c κs. tt)
+    (λ c κs. tt)
+    (λ c κs. tt)
+    (λ c κs. tt)
+    (λ c κs. tt)
+    (λ c κs. tt)
+    (λ c κs. tt)
+    (search needs)
+    (search needs)
+    (search needs)
+    (search needs)
+    (search needs)
+    (search needs)
+    (search needs)
+    returns)

@@ -1,0 +1,22 @@
+-- An input that is there is altered at its place (`altered-at`), any other nowhere (`altered-out`).
+use Rattle.rules.specs.Monitors.{measured}
+use Rattle.rules.specs.Sheet.{signedByte}
+use Rattle.monitor.proofs.Lanes.{altered-at, altered-out}
+use Rattle.monitor.proofs.measure.Statement.{statement}
+use Rattle.monitor.proofs.measure.Tie as tie
+
+returns : tie.Need-returns
+returns c =
+    let p = c .before .before .before .before in
+    let a = p .before .args in
+    altered-at (measured (a .reject) (a .limit) (signedByte (a .offset))) (a .m) (a .i)
+    (p .place .ensures) (c .before .before .before .if1 .taken) (c .before .before .lane-at .ensures) (c .before .judged .ensures) (c .placed .ensures)
+
+returns-2 : tie.Need-returns-2
+returns-2 c =
+    let a = c .before .before .args in
+    altered-out (measured (a .reject) (a .limit) (signedByte (a .offset))) (a .m) (a .i) (c .before .place .ensures) (c .if1 .left)
+
+pub measure-spec : {M : Type 1} → statement M
+measure-spec =
+    tie.close (tie.spec (λ c κs. tt) (λ c κs. c .if1 .taken) (λ c κs. tt) (λ c κs. tt) returns returns-2)

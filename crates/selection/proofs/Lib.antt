@@ -1,0 +1,4 @@
+-- The proofs of the selection.
+pub mod Keys
+pub mod Candidates
+pub mod Ones

@@ -1,0 +1,22 @@
+-- The count of available references: the ones of their mask.
+use mathlib.Core.Path.{ap, _∙_}
+use native.Mathlib.Omega.{arith}
+use lib.Count.{ones, ones-le}
+use borrow.Author.Needs.{needs}
+use Rattle.rules.specs.Registers.{settingsFrom}
+use Rattle.rules.specs.Selection.{available}
+use Rattle.monitor.specs.Bridge.{inputsOf}
+use Rattle.selection.proofs.Ones.{ones-mask}
+use Rattle.selection.proofs.available_count.Statement.{statement}
+use Rattle.selection.proofs.available_count.Tie as tie
+
+cast-result : tie.Need-cast-result
+cast-result c = omega (arith, ones-le 8 (c .available-mask .result) (search needs))
+
+returns : tie.Need-returns
+returns c =
+    let a = c .before .args in
+    ap ones (c .available-mask .ensures) ∙ ones-mask (available (settingsFrom (a .regs)) (inputsOf (a .m))) 8 .0
+
+pub available-count-spec : {M : Type 1} → statement M
+available-count-spec = tie.close (tie.spec (search needs) cast-result returns)

@@ -1,0 +1,43 @@
+-- A candidate: Free Run by its register, an input by its mask bit and its soak.
+use Prim.Native.Nat.{_/_, _%_}
+use mathlib.Core.Bool.{_&&_}
+use mathlib.Core.Path.{ap, sym, _∙_}
+use lib.Dec.{eqb}
+use borrow.Author.Needs.{needs}
+use borrow.Author.Tests.{ne-eqb}
+use Rattle.rules.specs.Monitors.{qualified}
+use Rattle.rules.specs.Registers.{settingsFrom}
+use Rattle.rules.specs.Selection.{input, available, candidate}
+use Rattle.rules.specs.Settings.{usable}
+use Rattle.rules.specs.Words.{bit, bitOf, isInput}
+use Rattle.monitor.specs.Bridge.{inputsOf}
+use Rattle.selection.proofs.Candidates.{and-again}
+use Rattle.selection.proofs.is_candidate.Statement.{statement}
+use Rattle.selection.proofs.is_candidate.Tie as tie
+
+returns : tie.Need-returns
+unfolding candidate usable bit
+returns c =
+    let a = c .before .before .args in
+    ap (λ n. eqb (n / 16 % 2) 1) (c .free-run-register .ensures) ∙ ap (candidate (settingsFrom (a .regs)) (inputsOf (a .m))) (sym (c .before .if1 .taken))
+
+returns-2 : tie.Need-returns-2
+unfolding candidate available usable
+returns-2 c =
+    let a = c .before .before .before .before .before .args in
+    let u = c .before .before .is-unmasked .ensures ∙ ap (λ n. isInput (a .c) && bitOf n (a .c)) (c .before .before .before .usable-mask .ensures) in
+    rw (ne-eqb _ _ (c .before .before .before .before .if1 .left))
+    (c .both .ensures ∙ (λ i. u i && c .before .qualified-at .ensures i)
+    ∙ and-again (isInput (a .c)) (bitOf (settingsFrom (a .regs) 0x42) (a .c)) (qualified (input (inputsOf (a .m)) (a .c))))
+
+pub is-candidate-spec : {M : Type 1} → statement M
+is-candidate-spec =
+    tie.close
+    (tie.spec
+    (search needs)
+    returns
+    (search needs)
+    (search needs)
+    (search needs)
+    (search needs)
+    returns-2)

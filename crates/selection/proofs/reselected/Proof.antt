@@ -1,0 +1,48 @@
+-- The automatic choice: an arm of the rule for each return.
+use mathlib.Core.Path.{ap, _∙_}
+use borrow.Author.Needs.{needs}
+use borrow.Author.Tests.{eq-eqb, ne-eqb}
+use Rattle.rules.specs.Selection.{reverted, reselected}
+use Rattle.rules.specs.Settings.{delayTicks}
+use Rattle.selection.specs.Bridge.{choiceOf}
+use Rattle.selection.proofs.reselected.Statement.{statement}
+use Rattle.selection.proofs.reselected.Tie as tie
+
+returns : tie.Need-returns
+unfolding reselected
+returns c =
+    rw (← c .before .before .before .before .is-candidate .ensures, c .before .before .before .if1 .taken, eq-eqb _ _ (c .before .if2 .taken)) (c .settled .ensures)
+
+returns-2 : tie.Need-returns-2
+unfolding reselected
+returns-2 c =
+    let a = c .before .before .before .before .before .before .before .before .before .args in
+    rw (← c .before .before .before .before .before .before .before .before .is-candidate .ensures, c .before .before .before .before .before .before .before .if1 .taken, ne-eqb _ _ (c .before .before .before .before .before .if2 .left), ← c .before .before .before .before .is-revertive .ensures, c .before .before .before .if3 .taken)
+    (c .reverted .ensures ∙ ap (λ n. reverted n (a .b) (choiceOf (a .c))) (c .before .delay-ticks .ensures ∙ ap delayTicks (c .before .before .delay-minutes .ensures)))
+
+returns-3 : tie.Need-returns-3
+unfolding reselected
+returns-3 c =
+    rw (← c .before .before .before .before .before .before .is-candidate .ensures, c .before .before .before .before .before .if1 .taken, ne-eqb _ _ (c .before .before .before .if2 .left), ← c .before .before .is-revertive .ensures, c .before .if3 .left)
+    (c .settled2 .ensures)
+
+returns-4 : tie.Need-returns-4
+unfolding reselected
+returns-4 c = rw (← c .before .before .is-candidate .ensures, c .before .if1 .left) (c .settled3 .ensures)
+
+pub reselected-spec : {M : Type 1} → statement M
+reselected-spec =
+    tie.close
+    (tie.spec
+    (search needs)
+    (search needs)
+    returns
+    (search needs)
+    (search needs)
+    (search needs)
+    (search needs)
+    returns-2
+    (search needs)
+    returns-3
+    (search needs)
+    returns-4)

@@ -1,0 +1,3 @@
+-- What the contracts of the selection cite.
+pub mod Bridge
+pub mod Keys
