@@ -1,2 +1,2 @@
--- Laws that several crates' proofs use. The functions need no file.
+-- Laws that several crates' proofs use.
 pub mod Laws

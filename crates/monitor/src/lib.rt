@@ -22,18 +22,22 @@ use arith::mask_of;
 use arith::up;
 use arith::wide16;
 
-// The bucket: its size, the levels that set and clear the activity alarm, and the ticks of a decay.
+// The bucket's size.
 const SIZE: u16 = 8;
 
+// The level that sets the activity alarm.
 const SET_LEVEL: u16 = 6;
 
+// The level that clears it.
 const CLEAR_LEVEL: u16 = 4;
 
+// The clean ticks after which the level falls.
 const DECAY_TICKS: u16 = 2;
 
-// The soak of a qualified input, and the length of a lock alarm, in ticks.
+// The soak of a qualified input.
 const FULL_SOAK: u16 = 79;
 
+// The ticks of a lock alarm.
 const ALARM_TICKS: u16 = 782;
 
 // The stored numbers of the eight inputs, input 1 first: the bucket's level and decay count, the activity alarm, the frequency alarm,

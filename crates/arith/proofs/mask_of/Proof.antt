@@ -1,10 +1,10 @@
 -- Each weight is that of its test; the rule adds 0 at the end.
 use Prim.Native.Nat.{_+_}
 use mathlib.Core.Path.{sym, _∙_}
-use Rattle.rules.specs.Words.{if_then_else_}
 use native.Mathlib.Nat.{add-zero}
-use Rattle.rules.specs.Reading.{maskUpTo}
 use borrow.Author.Needs.{needs}
+use Rattle.rules.specs.Words.{if_then_else_}
+use Rattle.rules.specs.Reading.{maskUpTo}
 use Rattle.arith.proofs.mask_of.Statement.{statement}
 use Rattle.arith.proofs.mask_of.Tie as tie
 
@@ -33,11 +33,11 @@ mask-of-spec =
     (λ c κs. tt)
     (λ c κs. tt)
     (λ c κs. tt)
-    (search needs)
-    (search needs)
-    (search needs)
-    (search needs)
-    (search needs)
-    (search needs)
-    (search needs)
+    (λ c. search needs)
+    (λ c. search needs)
+    (λ c. search needs)
+    (λ c. search needs)
+    (λ c. search needs)
+    (λ c. search needs)
+    (λ c. search needs)
     returns)

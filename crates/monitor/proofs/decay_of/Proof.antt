@@ -5,8 +5,8 @@ use native.Mathlib.Omega.{arith}
 use lib.Dec.{leb}
 use borrow.Author.Tests.{leb-false}
 use Rattle.rules.specs.Words.{if_then_else_}
-use Rattle.rules.proofs.Tests.{by-test}
 use Rattle.rules.specs.Monitors.{bucket, decayAfter}
+use Rattle.rules.proofs.Tests.{by-test}
 use Rattle.monitor.proofs.decay_of.Statement.{statement}
 use Rattle.monitor.proofs.decay_of.Tie as tie
 

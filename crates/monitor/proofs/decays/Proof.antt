@@ -2,8 +2,8 @@
 use mathlib.Core.Path.{sym}
 use native.Mathlib.Numerals.{add-one}
 use lib.Dec.{leb·suc-suc}
-use Rattle.rules.specs.Monitors.{bucket}
 use borrow.Author.Needs.{needs}
+use Rattle.rules.specs.Monitors.{bucket}
 use Rattle.monitor.proofs.decays.Statement.{statement}
 use Rattle.monitor.proofs.decays.Tie as tie
 
@@ -12,4 +12,4 @@ unfolding bucket
 returns c = rw (add-one (c .args .decay)) (sym (leb·suc-suc 1 (c .args .decay)))
 
 pub decays-spec : {M : Type 1} → statement M
-decays-spec = tie.close (tie.spec (search needs) returns)
+decays-spec = tie.close (tie.spec (λ c. search needs) returns)

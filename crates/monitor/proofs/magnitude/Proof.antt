@@ -1,8 +1,8 @@
 -- Below 128 the byte is the number; from there on the number is the byte less 256.
 use native.Mathlib.Omega.{arith}
 use borrow.Author.Tests.{lt-ltb, le-ltb}
-use Rattle.rules.specs.Sheet.{signed}
 use borrow.Author.Needs.{needs}
+use Rattle.rules.specs.Sheet.{signed}
 use Rattle.monitor.proofs.magnitude.Statement.{statement}
 use Rattle.monitor.proofs.magnitude.Tie as tie
 
@@ -15,4 +15,4 @@ unfolding signed
 returns-2 c = simp (le-ltb _ _ (c .if1 .left)) (omega arith)
 
 pub magnitude-spec : {M : Type 1} → statement M
-magnitude-spec = tie.close (tie.spec (search needs) (search needs) returns returns-2)
+magnitude-spec = tie.close (tie.spec (λ c. search needs) (λ c. search needs) returns returns-2)

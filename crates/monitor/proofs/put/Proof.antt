@@ -10,4 +10,4 @@ returns-2 : tie.Need-returns-2
 returns-2 c = let a = c .before .args in (sym (set-out (a .a) (a .k) (a .v) (omega arith)), search needs)
 
 pub put-spec : {M : Type 1} → statement M
-put-spec = tie.close (tie.spec (search needs) (search needs) (λ c. search needs) returns-2)
+put-spec = tie.close (tie.spec (λ c. search needs) (λ c. search needs) (λ c. search needs) returns-2)

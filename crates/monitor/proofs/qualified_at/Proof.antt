@@ -1,7 +1,7 @@
 -- The soak at the input's place tells (`qualified-lane`); no other number is an input's.
 use borrow.Author.Tests.{le-leb, lt-leb}
-use Rattle.monitor.proofs.Lanes.{qualified-lane}
 use borrow.Author.Needs.{needs}
+use Rattle.monitor.proofs.Lanes.{qualified-lane}
 use Rattle.monitor.proofs.qualified_at.Statement.{statement}
 use Rattle.monitor.proofs.qualified_at.Tie as tie
 
@@ -19,4 +19,4 @@ returns-3 c = rw (le-leb _ _ (c .before .if1 .left), lt-leb _ _ (c .if2 .left))
 
 pub qualified-at-spec : {M : Type 1} → statement M
 qualified-at-spec =
-    tie.close (tie.spec returns (λ c κs. tt) (search needs) (search needs) returns-2 returns-3)
+    tie.close (tie.spec returns (λ c κs. tt) (λ c. search needs) (λ c. search needs) returns-2 returns-3)

@@ -1,8 +1,8 @@
 -- The eight tests are those of the eight inputs, so the masks are the same.
+use borrow.Author.Needs.{needs}
 use Rattle.rules.specs.Monitors.{qualified}
 use Rattle.rules.specs.Reading.{maskUpTo}
 use Rattle.monitor.specs.Bridge.{inputsOf}
-use borrow.Author.Needs.{needs}
 use Rattle.monitor.proofs.qualified_mask.Statement.{statement}
 use Rattle.monitor.proofs.qualified_mask.Tie as tie
 
@@ -14,13 +14,13 @@ pub qualified-mask-spec : {M : Type 1} → statement M
 qualified-mask-spec =
     tie.close
     (tie.spec
-    (search needs)
-    (search needs)
-    (search needs)
-    (search needs)
-    (search needs)
-    (search needs)
-    (search needs)
-    (search needs)
+    (λ c. search needs)
+    (λ c. search needs)
+    (λ c. search needs)
+    (λ c. search needs)
+    (λ c. search needs)
+    (λ c. search needs)
+    (λ c. search needs)
+    (λ c. search needs)
     (λ c κs. tt)
     returns)

@@ -2,10 +2,10 @@
 use Prim.Native.Nat.{ℕ}
 use mathlib.Core.Path.{ap, _∙_}
 use mathlib.Core.List.{[], _∷_}
+use native.Mathlib.Omega.{arith}
 use Rattle.rules.specs.Selection.{eachFrom}
 use Rattle.rules.specs.Tick as Tick
 use Rattle.monitor.specs.Bridge.{inputsOf}
-use native.Mathlib.Omega.{arith}
 use Rattle.monitor.proofs.watched.Statement.{statement}
 use Rattle.monitor.proofs.watched.Tie as tie
 
