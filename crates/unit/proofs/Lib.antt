@@ -1,0 +1,3 @@
+-- The proofs of the unit.
+pub mod Outcomes
+pub mod Range

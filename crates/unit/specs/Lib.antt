@@ -1,0 +1,3 @@
+-- What the unit's contracts cite.
+pub mod Bridge
+pub mod Events

@@ -1,0 +1,383 @@
+// The unit (document 01): its whole state, and what each event does to it.
+// Each contract is an equation with a rule of crates/rules/specs through specs/Bridge.antt; the rule is named above the function.
+ghost use mathlib.Core.Path.{_≡_};
+ghost use mathlib.Core.Bool.{true};
+ghost use mathlib.Core.List.{List};
+ghost use lib.Dec.{leb};
+ghost use lib.IntN.{ℤ, natAbs};
+ghost use Rattle.rules.specs.Words.{if_then_else_};
+ghost use Rattle.rules.specs.Tick as rules;
+ghost use Rattle.rules.specs.Tick.{inputsAfter, loopAfter, steps1to4};
+ghost use Rattle.rules.specs.Registers as map;
+ghost use Rattle.rules.specs.Registers.{inMap, written, settingsFrom};
+ghost use Rattle.rules.specs.Sheet.{signedByte};
+ghost use Rattle.rules.specs.Events as events;
+ghost use Rattle.rules.specs.Events.{sampleLimit};
+ghost use Rattle.rules.specs.Run.{afterMeasurement, afterHit, afterWrite, outcome};
+ghost use Rattle.monitor.specs.Bridge.{inputsOf};
+ghost use Rattle.pll.specs.Bridge.{loopOf};
+ghost use Rattle.unit.specs.Bridge.{stateOf, Changes, Steps, Ticks, withSettings, modelOf};
+ghost use Rattle.unit.specs.Events.{eventOf, outcomeOf};
+use arith::both;
+use arith::one_to_eight;
+use history::History;
+use history::Tally;
+use monitor::Monitors;
+use pll::Loop;
+use selection::Choice;
+
+// What a tick changes, and the registers. The kept sums and the backup's are held beside it.
+#[repr(C)]
+pub struct Core {
+    pub monitors: Monitors,
+    pub tally: Tally,
+    pub choice: Choice,
+    pub holding: u32,
+    pub pll: Loop,
+    pub regs: [u8; 27],
+}
+
+// What a tick gives: the core, whether a block is done, and if so its sum, which is to be pushed.
+#[repr(C)]
+pub struct Ticked {
+    pub core: Core,
+    pub done: bool,
+    pub sum: i64,
+}
+
+// ---- a tick
+
+// The rule `loopAfter`, step 3: "Only if a reference 1 to 8 is selected when the tick begins."
+fn loop_after(lock: bool, k: Core) -> Loop
+    ensures { λ r. ⌜ ((sums backup : List ℤ) → loopOf r ≡ loopAfter lock (stateOf k sums backup)) ⌝ }
+{
+    let p = k.pll;
+    let tracked = one_to_eight(k.choice.selected);
+    if tracked {
+        return pll::looped(lock, p);
+    }
+    p
+}
+
+// The rule `inputsAfter`: the monitors after steps 1 to 3.
+fn inputs_after(mask: u8, lock: bool, k: Core) -> Monitors
+    ensures { λ r. ⌜ ((sums backup : List ℤ) → inputsOf r ≡ inputsAfter mask lock (stateOf k sums backup)) ⌝ }
+{
+    let m = monitor::watched(k.monitors, mask);
+    let due = both(
+        one_to_eight(k.choice.selected),
+        pll::alarm_due(loop_after(lock, k)),
+    );
+    if due {
+        return monitor::alarm(m, k.choice.selected);
+    }
+    m
+}
+
+// The rule `steps1to4`.
+fn steps_1_to_4(mask: u8, lock: bool, k: Core) -> Core
+    ensures { λ r. ⌜ Steps k r (steps1to4 mask lock) ⌝ }
+{
+    let regs = k.regs;
+    let tally = k.tally;
+    let old = k.choice;
+    let m = inputs_after(mask, lock, k);
+    let c = selection::chosen(m, regs, old);
+    let p = pll::steered(
+        registers::is_automatic(regs),
+        registers::op_mode(regs),
+        history::is_ready(tally),
+        k.choice.selected,
+        c.selected,
+        loop_after(lock, k),
+    );
+    let holding = pll::holding_after(k.pll.mode, p.mode, k.holding);
+    Core {
+        monitors: m,
+        tally: tally,
+        choice: c,
+        holding: holding,
+        pll: p,
+        regs: regs,
+    }
+}
+
+// The rule `ticked`: the five steps of a tick.
+pub fn tick(mask: u8, lock: bool, x: i32, k: Core) -> Ticked
+    ensures { λ r. ⌜ Ticks k r (rules.ticked mask lock x) ⌝ }
+{
+    let mut next = steps_1_to_4(mask, lock, k);
+    let regs = next.regs;
+    let u = history::recorded(
+        registers::policy(regs),
+        next.choice.selected,
+        pll::is_locked(next.pll.mode),
+        x,
+        next.tally,
+    );
+    let t = u.tally;
+    next.tally = t;
+    Ticked {
+        core: next,
+        done: u.done,
+        sum: u.sum,
+    }
+}
+
+// ---- the other events
+
+// A measurement of input i: the rule `afterMeasurement`.
+pub fn measurement(i: u8, offset: u8, k: Core) -> Core
+    ensures { λ r. ⌜ Changes k r (afterMeasurement i (signedByte offset)) ⌝ }
+{
+    let regs = k.regs;
+    let reject = registers::reject_limit(regs);
+    let qualification = registers::qualification_limit(regs);
+    let m = monitor::measure(k.monitors, i, offset, reject, qualification);
+    let mut next = k;
+    next.monitors = m;
+    next
+}
+
+// A Hit: the rule `afterHit`.
+pub fn hit(k: Core) -> Core
+    ensures { λ r. ⌜ Steps k r afterHit ⌝ }
+{
+    let regs = k.regs;
+    let m = monitor::unsoak(k.monitors, k.choice.selected);
+    let p = pll::loop_after_hit(history::is_ready(k.tally));
+    let none = selection::settled(0);
+    let t = history::open_emptied(k.tally);
+    Core {
+        monitors: m,
+        tally: t,
+        choice: none,
+        holding: 0,
+        pll: p,
+        regs: regs,
+    }
+}
+
+// The registers after a write of an address other than 0x26.
+fn set_register(a: u8, v: u8, k: Core) -> Core
+    ensures { λ r. ⌜ ((sums backup : List ℤ) → stateOf r sums backup ≡ withSettings (if inMap a then written a v (settingsFrom (k .regs)) else settingsFrom (k .regs)) (stateOf k sums backup)) ⌝ }
+{
+    let regs = k.regs;
+    let changed = registers::written(regs, a, v);
+    let mut next = k;
+    next.regs = changed;
+    next
+}
+
+// ---- the unit
+
+// The whole state: the core, the kept block sums, newest first, and the backup's.
+#[repr(C)]
+pub struct Unit {
+    pub core: Core,
+    pub sums: [i64; 64],
+    pub backup: [i64; 64],
+}
+
+// The rule `fresh`.
+pub fn fresh() -> Unit
+    ensures { λ r. ⌜ modelOf r ≡ map.fresh ⌝ }
+{
+    let h = history::fresh_history();
+    let sums = h.sums;
+    let backup = h.backup;
+    let empty = h.tally;
+    let regs = registers::fresh_registers();
+    let m = monitor::fresh_monitors();
+    let choice = selection::settled(0);
+    let p = pll::fresh_loop();
+    let core = Core {
+        monitors: m,
+        tally: empty,
+        choice: choice,
+        holding: 0,
+        pll: p,
+        regs: regs,
+    };
+    Unit {
+        core: core,
+        sums: sums,
+        backup: backup,
+    }
+}
+
+// ---- events
+
+// The four events.
+pub enum Event {
+    // irregular mask, lock flag, sample
+    Tick(u8, bool, i32),
+    // input, offset as a byte in two's complement
+    Measurement(u8, u8),
+    Hit,
+    // address, value
+    Write(u8, u8),
+}
+
+// What an event gives: its refusal number, 0 if it is accepted, and the unit.
+#[repr(C)]
+pub struct Outcome {
+    pub refusal: u8,
+    pub unit: Unit,
+}
+
+// The rule `ticked` on a whole unit: a completed block's sum is pushed.
+fn unit_ticked(mask: u8, lock: bool, x: i32, u: Unit) -> Unit
+    ensures { λ r. ⌜ modelOf r ≡ rules.ticked mask lock x (modelOf u) ⌝ }
+{
+    let t = tick(mask, lock, x, u.core);
+    let core = t.core;
+    let mut next = u;
+    next.core = core;
+    if t.done {
+        let old = u.sums;
+        let sums = history::push(old, t.sum);
+        next.sums = sums;
+        return next;
+    }
+    next
+}
+
+// The rule `afterWrite`: 0x26 is a command to the history, any other register of the map a setting.
+fn unit_written(a: u8, v: u8, u: Unit) -> Unit
+    ensures { λ r. ⌜ (inMap a ≡ true → modelOf r ≡ afterWrite a v (modelOf u)) ⌝ }
+{
+    let mut next = u;
+    if a == 0x26 {
+        let tally = u.core.tally;
+        let sums = u.sums;
+        let backup = u.backup;
+        let h = history::commanded(
+            v,
+            History {
+                tally: tally,
+                sums: sums,
+                backup: backup,
+            },
+        );
+        let mut core = u.core;
+        let t = h.tally;
+        core.tally = t;
+        let kept = h.sums;
+        let saved = h.backup;
+        return Unit {
+            core: core,
+            sums: kept,
+            backup: saved,
+        };
+    }
+    let core = set_register(a, v, u.core);
+    next.core = core;
+    next
+}
+
+// Refusal 7: "sample out of range".
+fn in_range(x: i32) -> bool
+    ensures { λ r. ⌜ r ≡ leb (natAbs x) sampleLimit ⌝ }
+{
+    if x < -125_000_000 {
+        return false;
+    }
+    x <= 125_000_000
+}
+
+// A tick, or refusal 7.
+fn on_tick(mask: u8, lock: bool, x: i32, u: Unit) -> Outcome
+    ensures { λ r. ⌜ outcomeOf r ≡ outcome (modelOf u) (events.tick mask lock x) ⌝ }
+{
+    let ok = in_range(x);
+    if ok {
+        let next = unit_ticked(mask, lock, x, u);
+        return Outcome {
+            refusal: 0,
+            unit: next,
+        };
+    }
+    Outcome {
+        refusal: 7,
+        unit: u,
+    }
+}
+
+// A measurement, or refusal 6: "input not 1 to 8".
+fn on_measurement(i: u8, offset: u8, u: Unit) -> Outcome
+    ensures { λ r. ⌜ outcomeOf r ≡ outcome (modelOf u) (events.measurement i (signedByte offset)) ⌝ }
+{
+    let ok = one_to_eight(i);
+    if ok {
+        let core = measurement(i, offset, u.core);
+        let mut next = u;
+        next.core = core;
+        return Outcome {
+            refusal: 0,
+            unit: next,
+        };
+    }
+    Outcome {
+        refusal: 6,
+        unit: u,
+    }
+}
+
+// A Hit, or refusal 5: "Hit with no reference 1 to 8 selected".
+fn on_hit(u: Unit) -> Outcome
+    ensures { λ r. ⌜ outcomeOf r ≡ outcome (modelOf u) events.hit ⌝ }
+{
+    let ok = one_to_eight(u.core.choice.selected);
+    if ok {
+        let core = hit(u.core);
+        let mut next = u;
+        next.core = core;
+        return Outcome {
+            refusal: 0,
+            unit: next,
+        };
+    }
+    Outcome {
+        refusal: 5,
+        unit: u,
+    }
+}
+
+// A write, or the first of refusals 1, 2, 3, 4 and 8 that fits.
+fn on_write(a: u8, v: u8, u: Unit) -> Outcome
+    ensures { λ r. ⌜ outcomeOf r ≡ outcome (modelOf u) (events.write a v) ⌝ }
+{
+    let regs = u.core.regs;
+    let tally = u.core.tally;
+    let number = registers::write_refusal(
+        regs,
+        a,
+        v,
+        history::is_ready(tally),
+        history::holds_backup(tally),
+    );
+    if number == 0 {
+        let next = unit_written(a, v, u);
+        return Outcome {
+            refusal: 0,
+            unit: next,
+        };
+    }
+    Outcome {
+        refusal: number,
+        unit: u,
+    }
+}
+
+// The rule `outcome`: an event's number, and the unit that it leaves.
+pub fn handle(e: Event, u: Unit) -> Outcome
+    ensures { λ r. ⌜ outcomeOf r ≡ outcome (modelOf u) (eventOf e) ⌝ }
+{
+    match e {
+        Event::Tick(mask, lock, x) => on_tick(mask, lock, x, u),
+        Event::Measurement(i, offset) => on_measurement(i, offset, u),
+        Event::Hit => on_hit(u),
+        Event::Write(a, v) => on_write(a, v, u),
+    }
+}
