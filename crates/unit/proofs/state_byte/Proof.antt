@@ -1,0 +1,22 @@
+-- A state's number is at most 5, so the byte fits.
+use Prim.Native.Nat.{ℕ, _+_, _*_, _%_}
+use mathlib.Core.Path.{ap}
+use native.Mathlib.Omega.{arith}
+use borrow.Author.Needs.{needs}
+use Rattle.pll.proofs.Modes.{number-mode}
+use Rattle.unit.proofs.state_byte.Statement.{statement}
+use Rattle.rules.specs.Reading as reading
+use Rattle.unit.proofs.state_byte.Tie as tie
+
+mul-result : tie.Need-mul-result
+mul-result c = omega (arith, c .mode-number .ensures, number-mode (c .before .args .k .pll .mode))
+
+add-result : tie.Need-add-result
+add-result c = omega (arith, c .before .mode-number .ensures, number-mode (c .before .before .args .k .pll .mode))
+
+returns : tie.Need-returns
+unfolding reading.stateByte
+returns c = λ sums backup. ap (λ (m : ℕ). 16 * m + c .before .before .args .k .choice .selected % 16) (c .before .mode-number .ensures)
+
+pub state-byte-spec : {M : Type 1} → statement M
+state-byte-spec = tie.close (tie.spec (search needs) mul-result add-result returns)

@@ -1,0 +1,26 @@
+-- The value's bits when Ready, else 0.
+use mathlib.Core.Path.{_≡_, refl, ap, _∙_}
+use borrow.Author.Needs.{needs}
+use Rattle.rules.specs.Reading.{twos}
+use Rattle.history.proofs.Signed.{stored}
+use Rattle.unit.proofs.value_bits.Statement.{statement}
+use mir.Syntax.{w64}
+use mir.Val.{toZ, ofZ}
+use Rattle.unit.proofs.value_bits.Tie as tie
+
+returns : tie.Need-returns
+returns c =
+    let u = c .before .before .before .before .before .before .before .args .u in
+    let ready = c .before .before .before .before .before .is-ready .ensures (u .sums) (u .backup) (search needs) in
+    let v = c .before .value .result in
+    let told : toZ w64 (ofZ w64 v) ≡ v = stored v (search needs) in
+    rw (← ready, c .before .before .before .before .if1 .taken) (c .twos .ensures ∙ ap twos (told ∙ c .before .value .ensures))
+
+returns-2 : tie.Need-returns-2
+returns-2 c =
+    let u = c .before .before .before .args .u in
+    rw (← c .before .is-ready .ensures (u .sums) (u .backup) (search needs), c .if1 .left) refl
+
+pub value-bits-spec : {M : Type 1} → statement M
+value-bits-spec =
+    tie.close (tie.spec (search needs) (search needs) (search needs) returns returns-2)
