@@ -10,7 +10,8 @@ use lib.Pow.{pow-mono}
 use Rattle.rules.specs.Words.{bitOf}
 use Rattle.rules.specs.State.{State}
 use Rattle.rules.specs.Run.{next, run}
-use Rattle.rules.specs.Service.{Unmasked, Preferred, AllFair, acceptedTicks, Served}
+use Rattle.rules.specs.Preference.{Unmasked, Preferred}
+use Rattle.rules.specs.Service.{AllFair, acceptedTicks, Served}
 use Rattle.rules.specs.Registers.{fresh}
 use Rattle.rules.proofs.Promise.{promise}
 use Rattle.rules.proofs.Computing.{computing}

@@ -21,7 +21,8 @@ use Rattle.rules.specs.Tick.{watched, loopAfter, inputsAfter, steps1to4,
 use Rattle.rules.specs.Refusals.{refusal, accepted}
 use Rattle.rules.specs.Run.{afterMeasurement, afterHit, effect, next, run}
 use Rattle.rules.specs.Laws.{SoundInputs, Lawful}
-use Rattle.rules.specs.Service.{AheadOfInput, AheadOfFreeRun, Revertive, Preferred, Fair, AllFair, qualifyTicks, acceptedTicks}
+use Rattle.rules.specs.Preference.{AheadOfInput, AheadOfFreeRun, Revertive, Preferred}
+use Rattle.rules.specs.Service.{Fair, AllFair, qualifyTicks, acceptedTicks}
 use Rattle.rules.proofs.Tests.{if-case, by-test, clash, and-false, and-left, and-right, low, high, zero-if}
 use Rattle.rules.proofs.EightInputs.{input-each, input-altered-other, input-altered-same}
 use Rattle.rules.proofs.OneInput.{bucket-works, Calm, calm-tick, calm-qualified, calm-measured}

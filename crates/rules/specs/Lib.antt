@@ -18,4 +18,5 @@ pub mod Printout
 pub mod Table
 pub mod Avoided
 pub mod Laws
+pub mod Preference
 pub mod Service

@@ -1,0 +1,2 @@
+-- What the contracts of the fields cite.
+pub mod Bridge

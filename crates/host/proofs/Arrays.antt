@@ -1,0 +1,21 @@
+-- A unit that a call was given, or that an outcome holds, has kept sums with their 64 places.
+use mathlib.Core.List.{List}
+use borrow.Author.Needs.{needs}
+use mir.Val.{Val}
+use denote.Laws.{Is}
+use denote.Struct.Laws as laws
+use Rattle.unit.specs.declared.Unit as code
+use Rattle.unit.specs.declared.Outcome.{Outcome}
+use Rattle.unit.proofs.Outcome as O
+use Rattle.unit.proofs.Outcome.Laws as O′
+use Rattle.unit.proofs.Unit as U
+use Rattle.unit.proofs.Unit.Laws as U′
+use Rattle.host.specs.Lent.{Places}
+
+pub places-of : (u : code.Unit) (vs : List Val) → Is U.the-row u vs → Places u
+places-of u vs is =
+    let sums = laws.owed U.the-type U′.the-laws u vs is .1 in
+    search needs
+
+pub places-after : (o : Outcome) (vs : List Val) → Is O.the-row o vs → Places (o .unit)
+places-after o vs is = places-of (o .unit) _ (laws.owed O.the-type O′.the-laws o vs is .1 .0)

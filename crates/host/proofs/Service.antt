@@ -1,0 +1,60 @@
+-- Demands 2 and 3 of the unit itself, proved: what the host holds is the rules' run.
+use Prim.Native.Nat.{ℕ}
+use mathlib.Core.Path.{_≡_, refl, ap, sym, _∙_}
+use mathlib.Core.List.{List, [], _∷_, _++_}
+use Rattle.rules.specs.Events.{Event}
+use Rattle.rules.specs.State.{State, Ready, selected}
+use Rattle.rules.specs.History.{ready}
+use Rattle.rules.specs.Registers.{fresh}
+use Rattle.rules.specs.Reading.{read}
+use Rattle.rules.specs.Run as rules
+use Rattle.rules.specs.Run.{outcome, run}
+use Rattle.rules.specs.Sheet.{Decoded, event, bad}
+use Rattle.rules.proofs.Promise.{promise}
+use Rattle.history.proofs.Kept.{ready-kept}
+use Rattle.unit.specs.Bridge.{modelOf}
+use Rattle.unit.specs.declared.Unit.{Unit as Stored}
+use Rattle.host.specs.Lent.{Places, Leads, wordOf}
+use Rattle.host.specs.Service.{Call, decoded, with, eventsOf, Lent, Holds, ownReady, Agreement, UnitPromise}
+
+-- one call: the rules go on from the state that it left
+goes-on : (u w : Stored) (d : Decoded) (n : ℕ) (es : List Event) → Leads u d n w → run (modelOf u) (with d es) ≡ run (modelOf w) es
+unfolding with run outcome
+goes-on u w (event e) n es l = ap (λ (s : rules.Outcome). run (s .state) es) (sym (l .rules))
+goes-on u w bad n es l = ap (λ (s : rules.Outcome). run (s .state) es) (sym (l .rules))
+
+-- a list of calls
+lent-run : (cs : List Call) (u v : Stored) → Lent u cs v → run (modelOf u) (eventsOf cs) ≡ modelOf v
+unfolding eventsOf run
+lent-run [] u v e = ap modelOf e
+lent-run (c ∷ cs) u v (w, (n, (l, more))) = goes-on u w (decoded c) n (eventsOf cs) l ∙ lent-run cs w v more
+
+lent-places : (cs : List Call) (u v : Stored) → Lent u cs v → Places u → Places v
+lent-places [] u v e p = rw (← e) p
+lent-places (c ∷ cs) u v (w, (n, (l, more))) p = lent-places cs w v more (l .places)
+
+-- what the host holds
+held-state : (es : List Event) (u : Stored) → Holds es u → modelOf u ≡ run fresh es
+held-state es u h = sym (lent-run (h .calls) (h .first) u (h .lent)) ∙ rw (h .made .rules, h .events) refl
+
+own-ready : (u : Stored) → Places u → ownReady u ≡ Ready (modelOf u)
+unfolding ready
+own-ready u p = ready-kept (u .sums) (u .core .tally .count) p
+
+-- DEMAND 2 OF THE UNIT
+pub agreement : Agreement
+agreement es u h =
+    let is = held-state es u h in
+    record {
+      state = is;
+      selected-is = ap selected is;
+      ready-is = own-ready u (lent-places (h .calls) (h .first) u (h .lent) (h .made .places)) ∙ ap Ready is;
+      register = λ address n shown. shown ∙ ap (λ (s : State). wordOf (read s address)) is;
+    }
+
+-- DEMAND 3 OF THE UNIT
+pub unit-promise : UnitPromise
+unit-promise before after later r u h p =
+    let now = agreement (before ++ (after ++ later)) u h in
+    let served = promise before after later r p in
+    record { selected-is = λ ticks. now .selected-is ∙ served .selected-is ticks; ready-is = λ ticks. now .ready-is ∙ served .ready-is ticks }

@@ -1,0 +1,40 @@
+-- What a call of an exported function does to the unit that it is lent, and what it returns.
+use Prim.Native.Nat.{ℕ, _+_, _*_}
+use mathlib.Core.Path.{_≡_}
+use lib.ListN.{length}
+use Rattle.rules.specs.State.{State}
+use Rattle.rules.specs.Registers.{fresh}
+use Rattle.rules.specs.Run.{Outcome, outcome}
+use Rattle.rules.specs.Reading.{Answer, read}
+use Rattle.rules.specs.Sheet.{Decoded, event, bad}
+use Rattle.unit.specs.Bridge.{modelOf}
+use Rattle.unit.specs.declared.Unit as code
+
+-- the kept sums have their 64 places
+abbrev pub Places : code.Unit → Type 0
+Places u = length (u .sums) ≡ 64
+
+-- What `unit_fresh` says of the unit that it returns.
+pub record Made (u : code.Unit) : Type 0 where
+  pub rules : modelOf u ≡ fresh
+  pub places : Places u
+
+-- what decoded fields give in state s: the event's outcome, or 12, "kind over 3, lock over 1, or unused field not 0", and the state "as before"
+abbrev pub given : State → Decoded → Outcome
+given s (event e) = outcome s e
+given s bad = record { refusal = 12; state = s }
+
+-- What `unit_event` says of a call with these fields that finds unit u, returns n and leaves unit v: number and state are the rules', and a call that is
+-- turned down leaves the stored unit itself as it was.
+pub record Leads (u : code.Unit) (d : Decoded) (n : ℕ) (v : code.Unit) : Type 0 where
+  pub rules : record { refusal = n; state = modelOf v } ≡ given (modelOf u) d
+  pub left : (n ≡ 0 → ⊥) → v ≡ u
+  pub places : Places v
+
+-- an answer as one number: 256 times the refusal, plus the byte
+abbrev pub wordOf : Answer → ℕ
+wordOf n = 256 * n .refusal + n .byte
+
+-- What `unit_read` says of the number n that it returns.
+abbrev pub Shows : code.Unit → ℕ → ℕ → Type 0
+Shows u address n = n ≡ wordOf (read (modelOf u) address)

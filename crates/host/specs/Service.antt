@@ -1,0 +1,92 @@
+-- Document 01, demands 2 and 3, of the unit itself: what a host holds that makes a unit and lends it for each event.
+use Prim.Native.Nat.{ℕ, _≤_}
+use mathlib.Core.Path.{_≡_}
+use mathlib.Core.Bool.{Bool, true}
+use mathlib.Core.List.{List, [], _∷_, _++_}
+use lib.Dec.{leb}
+use lib.IntN.{ℤ}
+use Rattle.rules.specs.Events.{Event}
+use Rattle.rules.specs.State.{State, selected, Ready}
+use Rattle.rules.specs.History.{readyBlocks}
+use Rattle.rules.specs.Registers.{fresh}
+use Rattle.rules.specs.Reading.{read}
+use Rattle.rules.specs.Run.{run}
+use Rattle.rules.specs.Sheet.{Decoded, event, bad, fields}
+use Rattle.rules.specs.Service.{Provisos, selectedTicks, readyTicks, acceptedTicks}
+use Rattle.unit.specs.Bridge.{modelOf}
+use Rattle.unit.specs.declared.Unit.{Unit as Stored}
+use Rattle.host.specs.Lent.{Made, Leads, wordOf, Shows}
+
+-- ---- the host
+
+-- a call of `unit_event`: the fields that it passes
+pub record Call : Type 0 where
+  pub kind : ℕ
+  pub a : ℕ
+  pub b : ℕ
+  pub word : ℤ
+
+abbrev pub decoded : Call → Decoded
+decoded c = fields (c .kind) (c .a) (c .b) (c .word)
+
+-- the events of a list of calls: a call whose fields are none, refusal 12, is not one of them
+unfoldable pub with : Decoded → List Event → List Event
+with (event e) es = e ∷ es
+with bad es = es
+
+unfoldable pub eventsOf : List Call → List Event
+eventsOf [] = []
+eventsOf (c ∷ cs) = with (decoded c) (eventsOf cs)
+
+-- "each event gets the state that the one before it left, and nobody else writes that state in between": from unit u, call by call, to unit v. All that is
+-- known of a call is what the contract of `unit_event` says of it.
+abbrev pub Lent : Stored → List Call → Stored → Type 0
+Lent u [] v = u ≡ v
+Lent u (c ∷ cs) v = (w : Stored) × ((n : ℕ) × (Leads u (decoded c) n w × Lent w cs v))
+
+-- THE HOST HOLDS v AFTER THE LIST es. "The list starts from a fresh unit": what `unit_fresh` returned, by its contract alone, then lent for each call.
+pub record Holds (es : List Event) (v : Stored) : Type 0 where
+  pub first : Stored
+  pub made : Made first
+  pub calls : List Call
+  pub lent : Lent first calls v
+  pub events : eventsOf calls ≡ es
+
+-- ---- the unit's own fields
+
+-- "the unit's own selected and Ready": the selected number in its choice; 43 blocks or more in its tally
+abbrev pub ownSelected : Stored → ℕ
+ownSelected u = u .core .choice .selected
+
+abbrev pub ownReady : Stored → Bool
+ownReady u = leb readyBlocks (u .core .tally .count)
+
+-- ---- demand 2
+
+-- "For every list of events from a fresh unit, state and each register agree with the rules"; "after each event the unit's own selected and Ready equal them".
+pub record Agrees (es : List Event) (u : Stored) : Type 0 where
+  pub state : modelOf u ≡ run fresh es
+  pub selected-is : ownSelected u ≡ selected (run fresh es)
+  pub ready-is : ownReady u ≡ Ready (run fresh es)
+  -- at each of the 256 addresses, what the published read returns
+  pub register : (address n : ℕ) → Shows u address n → n ≡ wordOf (read (run fresh es) address)
+
+abbrev pub Agreement : Type 0
+Agreement = (es : List Event) (u : Stored) → Holds es u → Agrees es u
+
+-- ---- demand 3
+
+-- what is promised of the unit that the host holds, where s is the rules' state at the moment and `after`, or more events, have come since
+pub record UnitServed (r : ℕ) (s : State) (after : List Event) (u : Stored) : Type 0 where
+  pub selected-is : selectedTicks r s ≤ acceptedTicks s after → ownSelected u ≡ r
+  pub ready-is : readyTicks r s ≤ acceptedTicks s after → ownReady u ≡ true
+
+-- THE PROMISE OF SERVICE OF THE UNIT. Take every list of events from a fresh unit, `before`, `after` and `later`, with the moment after `before`, every
+-- reference r for which the provisos hold, and every unit u that the host holds after the list. After the accepted tick with number 860 + n, counted from
+-- the moment, and after every later event, r is the unit's own selected; after the one with number 6,379 + n, and after every later event, Ready stands too.
+abbrev pub UnitPromise : Type 0
+UnitPromise =
+    (before after later : List Event) (r : ℕ) (u : Stored)
+    → Holds (before ++ (after ++ later)) u
+    → Provisos r (run fresh before) (after ++ later)
+    → UnitServed r (run fresh before) after u

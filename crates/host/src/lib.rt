@@ -1,0 +1,73 @@
+// The unit's state lent by the host (document 01: "The host owns the unit's state and lends it for each event; the event updates it and touches nothing
+// else"). Three functions are exported to C and Rust; each is thin over a function by value, and stores through the reference that it is lent.
+ghost use mathlib.Core.Path.{_≡_};
+ghost use Rattle.rules.specs.Sheet.{fields};
+ghost use Rattle.host.specs.Lent.{Made, Leads, Shows};
+use fields::Decoded;
+use unit::Outcome;
+use unit::Unit;
+
+// ---- by value
+
+// One event, given by its fields: 12 if they are no event, and the same unit on every refusal.
+pub fn event(u: Unit, kind: u8, a: u8, b: u8, word: i32) -> Outcome
+    ensures { λ r. ⌜ Leads u (fields kind a b word) (r .refusal) (r .unit) ⌝ }
+{
+    let Decoded::Event(e) = fields::decode(kind, a, b, word) else {
+        return Outcome {
+            refusal: 12,
+            unit: u,
+        };
+    };
+    let o = unit::handle(e, u);
+    if o.refusal == 0 {
+        return o;
+    }
+    Outcome {
+        refusal: o.refusal,
+        unit: u,
+    }
+}
+
+// A byte as a 16-bit number.
+fn wide16(x: u8) -> u16
+    ensures { λ r. ⌜ r ≡ x ⌝ }
+{
+    x as u16
+}
+
+// A read: 256 times the refusal, plus the byte.
+pub fn read(u: Unit, address: u8) -> u16
+    ensures { λ r. ⌜ Shows u address r ⌝ }
+{
+    let n = unit::read(u, address);
+    256 * wide16(n.refusal) + wide16(n.byte)
+}
+
+// ---- exported
+
+// A fresh unit.
+#[no_mangle]
+pub extern "C" fn unit_fresh() -> Unit
+    ensures { λ r. ⌜ Made r ⌝ }
+{
+    unit::fresh()
+}
+
+// One event on a lent unit: the refusal number, 0 if it is accepted.
+#[no_mangle]
+pub extern "C" fn unit_event(u: &mut Unit, kind: u8, a: u8, b: u8, word: i32) -> u8
+    ensures { λ r. ⌜ Leads (now (u .entry)) (fields kind a b word) r (now (u .exit)) ⌝ }
+{
+    let o = event(*u, kind, a, b, word);
+    *u = o.unit;
+    o.refusal
+}
+
+// A read of a lent unit.
+#[no_mangle]
+pub extern "C" fn unit_read(u: &Unit, address: u8) -> u16
+    ensures { λ r. ⌜ Shows (now (u .entry)) address r ⌝ }
+{
+    read(*u, address)
+}
