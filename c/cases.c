@@ -1,0 +1,200 @@
+/* Document 01's cases A to J ("Marked trials"), driven by a host in C through the three functions of controller.h. */
+#include "controller.h"
+
+#include <stdio.h>
+#include <string.h>
+
+enum { TICK, MEASUREMENT, HIT, WRITE };
+
+enum { SOAK_TICKS = 79, LOCK_TICKS = 16, BLOCK_TICKS = 128, READY_BLOCKS = 43 };
+
+static int failures;
+
+/* A line for each thing that a case says. */
+static void expect(const char *what, long got, long want)
+{
+    printf("%s: %s\n", what, got == want ? "ok" : "DIFFERENT");
+    if (got != want) {
+        printf("  got %ld, want %ld\n", got, want);
+        failures++;
+    }
+}
+
+static int write_register(struct unit *u, uint8_t address, uint8_t value)
+{
+    return unit_event(u, WRITE, address, value, 0);
+}
+
+static int measure(struct unit *u, uint8_t input, int8_t offset)
+{
+    return unit_event(u, MEASUREMENT, input, (uint8_t)offset, 0);
+}
+
+static void ticks(struct unit *u, long n, uint8_t irregular, uint8_t lock, int32_t sample)
+{
+    while (n-- > 0)
+        unit_event(u, TICK, irregular, lock, sample);
+}
+
+static void clean_ticks(struct unit *u, long n)
+{
+    ticks(u, n, 0, 0, 0);
+}
+
+static int state_byte(const struct unit *u)
+{
+    return unit_read(u, 0x48);
+}
+
+static int selected(const struct unit *u)
+{
+    return state_byte(u) % 16;
+}
+
+/* 0x4a to 0x4d, low byte first, two's complement. */
+static int32_t value(const struct unit *u)
+{
+    uint32_t bits = 0;
+    for (int i = 3; i >= 0; i--)
+        bits = bits << 8 | unit_read(u, (uint8_t)(0x4a + i));
+    return (int32_t)bits;
+}
+
+static int activity_alarm(const struct unit *u, int input)
+{
+    return u->core.monitors.active[input - 1];
+}
+
+static int frequency_alarm(const struct unit *u, int input)
+{
+    return u->core.monitors.frequency[input - 1];
+}
+
+static void activity(void)
+{
+    struct unit u = unit_fresh();
+    ticks(&u, 5, 1, 0, 0);
+    expect("A five irregular ticks: no alarm", activity_alarm(&u, 1), 0);
+    ticks(&u, 1, 1, 0, 0);
+    expect("A a sixth: alarm", activity_alarm(&u, 1), 1);
+    clean_ticks(&u, 3);
+    expect("B then three clean ticks: alarm", activity_alarm(&u, 1), 1);
+    clean_ticks(&u, 1);
+    expect("B a fourth: clear", activity_alarm(&u, 1), 0);
+}
+
+/* The frequency alarm of input 1 after a measurement, from fresh, where it is set, or after a measurement of 0 has cleared it. */
+static int alarm_after(int8_t offset, int cleared)
+{
+    struct unit u = unit_fresh();
+    if (cleared)
+        measure(&u, 1, 0);
+    measure(&u, 1, offset);
+    return frequency_alarm(&u, 1);
+}
+
+static void frequency(void)
+{
+    expect("C offset -128 sets", alarm_after(-128, 1), 1);
+    expect("D 32 sets", alarm_after(32, 1), 1);
+    expect("D 31 keeps a set alarm", alarm_after(31, 0), 1);
+    expect("D 31 keeps a clear one", alarm_after(31, 1), 0);
+    expect("D 26 keeps a set alarm", alarm_after(26, 0), 1);
+    expect("D 26 keeps a clear one", alarm_after(26, 1), 0);
+    expect("D 25 clears", alarm_after(25, 0), 0);
+}
+
+/* Field by field: what lies between fields is no part of the state. */
+static int same_unit(const struct unit *u, const struct unit *v)
+{
+    const struct unit_core *a = &u->core, *b = &v->core;
+    return memcmp(&a->monitors, &b->monitors, sizeof a->monitors) == 0 && memcmp(&a->tally, &b->tally, sizeof a->tally) == 0
+        && a->choice.wait == b->choice.wait && a->choice.selected == b->choice.selected && a->choice.aim == b->choice.aim
+        && a->holding == b->holding && memcmp(&a->pll, &b->pll, sizeof a->pll) == 0 && memcmp(a->regs, b->regs, sizeof a->regs) == 0
+        && memcmp(u->sums, v->sums, sizeof u->sums) == 0 && memcmp(u->backup, v->backup, sizeof u->backup) == 0;
+}
+
+static void limits(void)
+{
+    struct unit u = unit_fresh();
+    struct unit before = u;
+    expect("E fresh: 0x44 = 30 gives 4", write_register(&u, 0x44, 30), 4);
+    expect("E and leaves the unit as it was", same_unit(&u, &before), 1);
+    expect("E 0x45 = 24 is accepted", write_register(&u, 0x45, 24), 0);
+    expect("E then 0x44 = 30 is accepted", write_register(&u, 0x44, 30), 0);
+}
+
+/* A unit in automatic control that has selected one input, the first that qualifies. */
+static struct unit tracking(uint8_t input)
+{
+    struct unit u = unit_fresh();
+    write_register(&u, 0x40, 1);
+    measure(&u, input, 0);
+    clean_ticks(&u, SOAK_TICKS);
+    return u;
+}
+
+static void first_lock(void)
+{
+    struct unit u = unit_fresh();
+    write_register(&u, 0x40, 1);
+    measure(&u, 1, 0);
+    clean_ticks(&u, SOAK_TICKS - 1);
+    expect("F 78 clean ticks: 0x48 is 0x00", state_byte(&u), 0x00);
+    clean_ticks(&u, 1);
+    expect("F the 79th: 0x21", state_byte(&u), 0x21);
+    ticks(&u, LOCK_TICKS - 1, 0, 1, 0);
+    expect("G 15 lock ticks more: 0x21", state_byte(&u), 0x21);
+    ticks(&u, 1, 0, 1, 0);
+    expect("G a 16th: 0x31", state_byte(&u), 0x31);
+}
+
+/* The tick that gives Locked is the first with a sample. */
+static void mean_of_43_blocks(void)
+{
+    struct unit u = tracking(1);
+    ticks(&u, LOCK_TICKS - 1, 0, 1, 0);
+    ticks(&u, 1, 0, 1, -1);
+    ticks(&u, (long)READY_BLOCKS * BLOCK_TICKS - 1, 0, 1, 0);
+    expect("H 43 blocks: Ready", unit_read(&u, 0x49) / 4 % 2, 1);
+    expect("H sums -1 and 42 times 0: value -1", value(&u), -1);
+}
+
+/* How many ticks after the one that makes input 1 available the unit reverts to it from input 2; both have priority 0. */
+static long reversion(uint8_t delay, long at_most)
+{
+    struct unit u = tracking(2);
+    write_register(&u, 0x1d, 8);
+    write_register(&u, 0x43, delay);
+    measure(&u, 1, 0);
+    clean_ticks(&u, SOAK_TICKS);
+    long n = 0;
+    while (selected(&u) != 1 && n < at_most) {
+        ticks(&u, 1, 0, 1, 0);
+        n++;
+    }
+    return n;
+}
+
+static void equal_priority(void)
+{
+    struct unit u = tracking(2);
+    measure(&u, 1, 0);
+    clean_ticks(&u, SOAK_TICKS);
+    expect("J non-revertive: input 1 does not take over", selected(&u), 2);
+    expect("J revertive, delay 0: input 1 takes over", reversion(0, 1), 0);
+}
+
+int main(void)
+{
+    activity();
+    frequency();
+    limits();
+    first_lock();
+    mean_of_43_blocks();
+    expect("I delay 1: n = 469", reversion(1, 1000), 469);
+    expect("I delay 255: n = 119,532", reversion(255, 200000), 119532);
+    equal_priority();
+    printf("cases A to J: %s\n", failures ? "FAILED" : "passed");
+    return failures != 0;
+}

@@ -1,0 +1,122 @@
+/* The reference controller of the eight-input timing unit, for a host in C (link libhost.a).
+ *
+ * The host owns a unit's state. It makes one with unit_fresh, lends it to unit_event for each event and to unit_read for each read, and writes it by
+ * nothing else. A tick is 128 ms. Document 01 says what each event does and what each register shows.
+ */
+#ifndef CONTROLLER_H
+#define CONTROLLER_H
+
+#include <stddef.h>
+#include <stdint.h>
+
+#ifdef __cplusplus
+#define CONTROLLER_ASSERT(test, text) static_assert(test, text)
+extern "C" {
+#else
+#define CONTROLLER_ASSERT(test, text) _Static_assert(test, text)
+#endif
+
+/* The monitors, in lanes: place i - 1 is input i. A flag is 0 or 1. */
+struct unit_monitors {
+    uint16_t level[8];     /* activity bucket: its level */
+    uint16_t decay[8];     /* activity bucket: its decay count */
+    uint16_t active[8];    /* activity alarm */
+    uint16_t frequency[8]; /* frequency alarm */
+    uint16_t remainder[8]; /* lock alarm: ticks that remain */
+    uint16_t soak[8];      /* good ticks, 79 at most */
+};
+
+/* The history's counts; the block sums stand apart. */
+struct unit_tally {
+    int64_t open;    /* sum of the open block */
+    uint16_t filled; /* samples in the open block */
+    uint16_t count;  /* blocks kept */
+    uint16_t backed; /* blocks in the backup */
+    uint8_t last;    /* the reference 1 to 8 selected last, 0 for none */
+    uint8_t command; /* the last accepted command */
+};
+
+/* The selection. */
+struct unit_choice {
+    uint32_t wait;    /* reversion wait in ticks */
+    uint8_t selected; /* 0 none, 1 to 8, 9 Free Run as a candidate */
+    uint8_t aim;      /* the best that the wait is for */
+};
+
+/* The PLL. */
+struct unit_loop {
+    uint16_t unlock; /* unlock run */
+    uint8_t mode;    /* state, as in 0x48 */
+    uint8_t lock;    /* lock run */
+};
+
+struct unit_core {
+    struct unit_monitors monitors;
+    struct unit_tally tally;
+    struct unit_choice choice;
+    uint32_t holding; /* ticks in Holdover */
+    struct unit_loop pll;
+    uint8_t regs[27]; /* the settings, 0x1c to 0x27 and 0x40 to 0x4e */
+};
+
+/* The whole state. */
+struct unit {
+    struct unit_core core;
+    int64_t sums[64];   /* kept block sums, newest first */
+    int64_t backup[64]; /* the backup's */
+};
+
+CONTROLLER_ASSERT(sizeof(struct unit_monitors) == 96, "size of unit_monitors");
+CONTROLLER_ASSERT(sizeof(struct unit_tally) == 16, "size of unit_tally");
+CONTROLLER_ASSERT(sizeof(struct unit_choice) == 8, "size of unit_choice");
+CONTROLLER_ASSERT(sizeof(struct unit_loop) == 4, "size of unit_loop");
+CONTROLLER_ASSERT(sizeof(struct unit_core) == 160, "size of unit_core");
+CONTROLLER_ASSERT(sizeof(struct unit) == 1184, "size of unit");
+
+CONTROLLER_ASSERT(offsetof(struct unit_monitors, level) == 0, "offset of level");
+CONTROLLER_ASSERT(offsetof(struct unit_monitors, decay) == 16, "offset of decay");
+CONTROLLER_ASSERT(offsetof(struct unit_monitors, active) == 32, "offset of active");
+CONTROLLER_ASSERT(offsetof(struct unit_monitors, frequency) == 48, "offset of frequency");
+CONTROLLER_ASSERT(offsetof(struct unit_monitors, remainder) == 64, "offset of remainder");
+CONTROLLER_ASSERT(offsetof(struct unit_monitors, soak) == 80, "offset of soak");
+CONTROLLER_ASSERT(offsetof(struct unit_tally, open) == 0, "offset of open");
+CONTROLLER_ASSERT(offsetof(struct unit_tally, filled) == 8, "offset of filled");
+CONTROLLER_ASSERT(offsetof(struct unit_tally, count) == 10, "offset of count");
+CONTROLLER_ASSERT(offsetof(struct unit_tally, backed) == 12, "offset of backed");
+CONTROLLER_ASSERT(offsetof(struct unit_tally, last) == 14, "offset of last");
+CONTROLLER_ASSERT(offsetof(struct unit_tally, command) == 15, "offset of command");
+CONTROLLER_ASSERT(offsetof(struct unit_choice, wait) == 0, "offset of wait");
+CONTROLLER_ASSERT(offsetof(struct unit_choice, selected) == 4, "offset of selected");
+CONTROLLER_ASSERT(offsetof(struct unit_choice, aim) == 5, "offset of aim");
+CONTROLLER_ASSERT(offsetof(struct unit_loop, unlock) == 0, "offset of unlock");
+CONTROLLER_ASSERT(offsetof(struct unit_loop, mode) == 2, "offset of mode");
+CONTROLLER_ASSERT(offsetof(struct unit_loop, lock) == 3, "offset of lock");
+CONTROLLER_ASSERT(offsetof(struct unit_core, monitors) == 0, "offset of monitors");
+CONTROLLER_ASSERT(offsetof(struct unit_core, tally) == 96, "offset of tally");
+CONTROLLER_ASSERT(offsetof(struct unit_core, choice) == 112, "offset of choice");
+CONTROLLER_ASSERT(offsetof(struct unit_core, holding) == 120, "offset of holding");
+CONTROLLER_ASSERT(offsetof(struct unit_core, pll) == 124, "offset of pll");
+CONTROLLER_ASSERT(offsetof(struct unit_core, regs) == 128, "offset of regs");
+CONTROLLER_ASSERT(offsetof(struct unit, core) == 0, "offset of core");
+CONTROLLER_ASSERT(offsetof(struct unit, sums) == 160, "offset of sums");
+CONTROLLER_ASSERT(offsetof(struct unit, backup) == 672, "offset of backup");
+
+/* A fresh unit. */
+struct unit unit_fresh(void);
+
+/* One event on the lent unit: the refusal number, 0 if it is accepted. The fields are those of an event of a run sheet:
+ *   kind 0, tick:        a irregular mask, b lock flag 0 or 1, word frequency sample in parts per 10^12
+ *   kind 1, measurement: a input 1 to 8, b offset in 0.5 ppm as a byte in two's complement, word 0
+ *   kind 2, Hit:         a, b and word 0
+ *   kind 3, write:       a address, b value, word 0
+ * Fields that are no event give 12. A refusal leaves the unit as it was. */
+uint8_t unit_event(struct unit *u, uint8_t kind, uint8_t a, uint8_t b, int32_t word);
+
+/* A read of the lent unit: 256 times the refusal, plus the byte. */
+uint16_t unit_read(const struct unit *u, uint8_t address);
+
+#ifdef __cplusplus
+}
+#endif
+
+#endif

@@ -1,0 +1,109 @@
+//! The bindings to the real controller, a static library with a C interface.
+//! The host owns the unit's state and lends it for each event.
+
+use std::mem::{align_of, size_of};
+
+/// What the monitors keep of each input.
+#[repr(C)]
+#[derive(Clone, Copy, Debug, PartialEq, Eq)]
+pub struct Monitors {
+    pub level: [u16; 8],
+    pub decay: [u16; 8],
+    pub active: [u16; 8],
+    pub frequency: [u16; 8],
+    pub remainder: [u16; 8],
+    pub soak: [u16; 8],
+}
+
+/// The history's open block and counts.
+#[repr(C)]
+#[derive(Clone, Copy, Debug, PartialEq, Eq)]
+pub struct Tally {
+    pub open: i64,
+    pub filled: u16,
+    pub count: u16,
+    pub backed: u16,
+    pub last: u8,
+    pub command: u8,
+}
+
+/// What is selected, and the reversion wait.
+#[repr(C)]
+#[derive(Clone, Copy, Debug, PartialEq, Eq)]
+pub struct Choice {
+    pub wait: u32,
+    pub selected: u8,
+    pub aim: u8,
+}
+
+/// The PLL's state and runs.
+#[repr(C)]
+#[derive(Clone, Copy, Debug, PartialEq, Eq)]
+pub struct Loop {
+    pub unlock: u16,
+    pub mode: u8,
+    pub lock: u8,
+}
+
+/// The state but for the block sums.
+#[repr(C)]
+#[derive(Clone, Copy, Debug, PartialEq, Eq)]
+pub struct Core {
+    pub monitors: Monitors,
+    pub tally: Tally,
+    pub choice: Choice,
+    pub holding: u32,
+    pub pll: Loop,
+    pub regs: [u8; 27],
+}
+
+/// The whole state of a unit.
+#[repr(C)]
+#[derive(Clone, Copy, Debug, PartialEq, Eq)]
+pub struct Unit {
+    pub core: Core,
+    pub sums: [i64; 64],
+    pub backup: [i64; 64],
+}
+
+const fn laid_out<T>(size: usize, align: usize) -> bool {
+    size_of::<T>() == size && align_of::<T>() == align
+}
+
+const _: () = {
+    assert!(laid_out::<Monitors>(96, 2));
+    assert!(laid_out::<Tally>(16, 8));
+    assert!(laid_out::<Choice>(8, 4));
+    assert!(laid_out::<Loop>(4, 2));
+    assert!(laid_out::<Core>(160, 8));
+    assert!(laid_out::<Unit>(1184, 8));
+};
+
+extern "C" {
+    fn unit_fresh() -> Unit;
+    fn unit_event(unit: *mut Unit, kind: u8, a: u8, b: u8, word: i32) -> u8;
+    fn unit_read(unit: *const Unit, address: u8) -> u16;
+}
+
+impl Unit {
+    pub fn fresh() -> Unit {
+        // SAFETY: the function takes nothing and returns the struct by value.
+        unsafe { unit_fresh() }
+    }
+
+    /// The refusal's number, 0 if accepted, 12 if the fields are no event; the
+    /// state is unchanged by every refusal.
+    pub fn event(&mut self, kind: u8, a: u8, b: u8, word: i32) -> u8 {
+        // SAFETY: the pointer is to a whole unit, lent for the call alone; the
+        // function takes every value of the other arguments.
+        unsafe { unit_event(self, kind, a, b, word) }
+    }
+
+    /// The refusal's number and the byte.
+    pub fn read(&self, address: u8) -> (u8, u8) {
+        // SAFETY: the pointer is to a whole unit, which is only read.
+        let answer = unsafe { unit_read(self, address) };
+        let [byte, refusal] = answer.to_le_bytes();
+        (refusal, byte)
+    }
+}

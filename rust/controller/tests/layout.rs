@@ -1,0 +1,57 @@
+//! The places of the fields in the structs that the library shares, and a
+//! first word with the library.
+
+use controller::Unit;
+
+/// The distance of a part of the unit from its beginning.
+fn offset<T>(unit: &Unit, part: &T) -> usize {
+    part as *const T as usize - unit as *const Unit as usize
+}
+
+#[test]
+fn the_fields_lie_where_the_interface_says() {
+    let unit = Unit::fresh();
+    let core = &unit.core;
+    let (monitors, tally) = (&core.monitors, &core.tally);
+    let places = [
+        ("level", offset(&unit, &monitors.level), 0),
+        ("decay", offset(&unit, &monitors.decay), 16),
+        ("active", offset(&unit, &monitors.active), 32),
+        ("frequency", offset(&unit, &monitors.frequency), 48),
+        ("remainder", offset(&unit, &monitors.remainder), 64),
+        ("soak", offset(&unit, &monitors.soak), 80),
+        ("open", offset(&unit, &tally.open), 96),
+        ("filled", offset(&unit, &tally.filled), 104),
+        ("count", offset(&unit, &tally.count), 106),
+        ("backed", offset(&unit, &tally.backed), 108),
+        ("last", offset(&unit, &tally.last), 110),
+        ("command", offset(&unit, &tally.command), 111),
+        ("wait", offset(&unit, &core.choice.wait), 112),
+        ("selected", offset(&unit, &core.choice.selected), 116),
+        ("aim", offset(&unit, &core.choice.aim), 117),
+        ("holding", offset(&unit, &core.holding), 120),
+        ("unlock", offset(&unit, &core.pll.unlock), 124),
+        ("mode", offset(&unit, &core.pll.mode), 126),
+        ("lock", offset(&unit, &core.pll.lock), 127),
+        ("regs", offset(&unit, &core.regs), 128),
+        ("sums", offset(&unit, &unit.sums), 160),
+        ("backup", offset(&unit, &unit.backup), 672),
+    ];
+    for (name, found, expected) in places {
+        assert_eq!(found, expected, "{}", name);
+    }
+}
+
+/// Fresh bytes, a refusal, and an accepted write, through the library.
+#[test]
+fn the_library_answers() {
+    let mut unit = Unit::fresh();
+    assert_eq!(unit.read(0x42), (0, 255));
+    assert_eq!(unit.read(0x49), (0, 3));
+    assert_eq!(unit.read(0x00), (1, 0));
+    let before = unit;
+    assert_eq!(unit.event(2, 0, 0, 0), 5);
+    assert_eq!(unit, before);
+    assert_eq!(unit.event(3, 0x40, 1, 0), 0);
+    assert_eq!(unit.read(0x40), (0, 1));
+}

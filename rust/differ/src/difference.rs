@@ -1,0 +1,80 @@
+//! What is told about a difference: where it was found, both answers, and how
+//! to repeat the list.
+
+use crate::fields::Fields;
+use std::fmt;
+
+/// How the device's answer differs from the model's.
+#[derive(Clone, Copy, Debug, PartialEq, Eq)]
+pub enum Mismatch {
+    Refusal {
+        model: u8,
+        device: u8,
+    },
+    Read {
+        address: u8,
+        model: (u8, u8),
+        device: (u8, u8),
+    },
+    /// A refused event changed the state of the one named.
+    Changed {
+        name: &'static str,
+    },
+}
+
+impl fmt::Display for Mismatch {
+    fn fmt(&self, f: &mut fmt::Formatter) -> fmt::Result {
+        match *self {
+            Mismatch::Refusal { model, device } => {
+                write!(f, "refusal: the model {}, the device {}", model, device)
+            }
+            Mismatch::Read {
+                address,
+                model,
+                device,
+            } => write!(
+                f,
+                "read {:#04x}: the model refusal {} byte {:#04x}, the device refusal {} byte {:#04x}",
+                address, model.0, model.1, device.0, device.1
+            ),
+            Mismatch::Changed { name } => {
+                write!(f, "the refused event changed the state of the {}", name)
+            }
+        }
+    }
+}
+
+/// A list's name: its seed, and whether it is one with a long Holdover.
+#[derive(Clone, Copy, Debug, PartialEq, Eq)]
+pub struct Name {
+    pub seed: u64,
+    pub long: bool,
+}
+
+impl fmt::Display for Name {
+    fn fmt(&self, f: &mut fmt::Formatter) -> fmt::Result {
+        let long = if self.long { " --long" } else { "" };
+        write!(f, "--list {}{}", self.seed, long)
+    }
+}
+
+#[derive(Clone, Debug, PartialEq, Eq)]
+pub struct Difference {
+    pub name: Name,
+    /// The event after which it showed, and its index from 0; none if the
+    /// fresh units already differ.
+    pub event: Option<(u64, Fields)>,
+    pub mismatch: Mismatch,
+}
+
+impl fmt::Display for Difference {
+    fn fmt(&self, f: &mut fmt::Formatter) -> fmt::Result {
+        writeln!(f, "DIFFERENCE in the list of seed {}", self.name.seed)?;
+        match self.event {
+            Some((index, fields)) => writeln!(f, "  after event {}: {}", index, fields)?,
+            None => writeln!(f, "  before the first event")?,
+        }
+        writeln!(f, "  {}", self.mismatch)?;
+        write!(f, "  repeat it with: differ {}", self.name)
+    }
+}

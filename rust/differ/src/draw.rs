@@ -1,0 +1,92 @@
+//! Single events, or fields that are none, drawn at random.
+
+use crate::fields::Fields;
+use crate::random::Random;
+use model::{Event, SAMPLE_LIMIT};
+
+/// Fields that are no event.
+fn no_event(random: &mut Random) -> Fields {
+    let (a, b, word) = (random.byte(), random.byte(), random.word() as i32);
+    let (kind, a, b, word) = match random.below(5) {
+        0 => (0, a, b | 2, word),
+        1 => (1, a, b, word | 1),
+        2 => random.pick(&[(2, a | 1, 0, 0), (2, 0, b | 1, 0), (2, 0, 0, word | 1)]),
+        3 => (3, a, b, word | 1),
+        _ => (a | 4, b, 0, 0),
+    };
+    Fields { kind, a, b, word }
+}
+
+/// A tick with a sample just or far out of range.
+pub fn out_of_range_tick(random: &mut Random) -> Event {
+    let beyond = [SAMPLE_LIMIT + 1, -SAMPLE_LIMIT - 1, i32::MAX, i32::MIN];
+    Event::Tick {
+        mask: random.byte(),
+        lock: random.one_in(2),
+        sample: random.pick(&beyond),
+    }
+}
+
+/// An event that does not disturb the course of a list: one to be refused, or a
+/// command 0 or 1.
+pub fn stray(random: &mut Random) -> Fields {
+    let value = random.byte();
+    let above_largest = random.pick(&[0x24, 0x25, 0x26, 0x40, 0x41, 0x44, 0x45]);
+    let not_in_the_map = random.pick(&[0x00, 0x1b, 0x28, 0x3f, 0x4f, 0xff]);
+    let read_only = random.pick(&[0x27, 0x46, 0x47, 0x48, 0x49, 0x4a, 0x4d, 0x4e]);
+    match random.below(8) {
+        0 | 1 => no_event(random),
+        2 => out_of_range_tick(random).into(),
+        3 => write(not_in_the_map, value),
+        4 => write(read_only, value),
+        5 => write(above_largest, 0x80 | value),
+        6 => write(0x26, value & 0x01),
+        _ => measurement(random.pick(&[0, 9, 0x10 | value]), value as i8),
+    }
+}
+
+fn write(address: u8, value: u8) -> Fields {
+    Event::Write { address, value }.into()
+}
+
+fn measurement(input: u8, offset: i8) -> Fields {
+    Event::Measurement { input, offset }.into()
+}
+
+/// Random bytes in all fields, most often of a kind that there is.
+pub fn any_fields(random: &mut Random) -> Fields {
+    let (byte, word) = (random.byte(), random.word() as i32);
+    let near_the_limit = SAMPLE_LIMIT - 2 + random.below(5) as i32;
+    let address = any_address(random);
+    Fields {
+        kind: random.pick(&[0, 0, 0, 1, 1, 2, 2, 3, 3, byte]),
+        a: random.pick(&[0, byte & 0x0f, byte, address]),
+        b: random.pick(&[0, 1, byte]),
+        word: random.pick(&[0, 0, 0, 0, near_the_limit, -near_the_limit, word]),
+    }
+}
+
+/// An address of the map.
+pub fn any_address(random: &mut Random) -> u8 {
+    let low = random.between(0x1c, 0x27) as u8;
+    let high = random.between(0x40, 0x4e) as u8;
+    random.pick(&[low, high])
+}
+
+/// A value for the address, most often one that is accepted.
+pub fn any_value(random: &mut Random, address: u8) -> u8 {
+    let byte = random.byte();
+    if random.one_in(8) {
+        return byte;
+    }
+    match address {
+        0x24 => byte & 0x1f,
+        0x25 | 0x40 => byte & 0x01,
+        0x26 => byte & 0x03,
+        0x41 => byte % 10,
+        0x43 => byte % 3,
+        0x44 => 25 + byte % 100,
+        0x45 => byte % 50,
+        _ => byte,
+    }
+}

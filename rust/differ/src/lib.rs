@@ -1,0 +1,17 @@
+//! The differential test: random lists of events sent to the model and to a
+//! device, their answers compared after each event.
+
+#![forbid(unsafe_code)]
+
+pub mod coverage;
+pub mod device;
+pub mod difference;
+pub mod draw;
+pub mod fields;
+pub mod list;
+pub mod pair;
+pub mod phases;
+pub mod random;
+pub mod run;
+pub mod scenarios;
+pub mod shrink;

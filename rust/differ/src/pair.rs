@@ -1,0 +1,90 @@
+//! The model and a device side by side, each event and each read given to
+//! both.
+
+use crate::device::Device;
+use crate::difference::Mismatch;
+use crate::fields::Fields;
+use model::Unit;
+use std::ops::RangeInclusive;
+
+/// The two stretches of the register map.
+pub const MAP: [RangeInclusive<u8>; 2] = [0x1c..=0x27, 0x40..=0x4e];
+
+pub struct Pair<D> {
+    pub model: Unit,
+    pub model_before: Unit,
+    device: D,
+    device_before: D,
+    /// How often each address was read.
+    pub reads: [u64; 256],
+}
+
+impl<D: Device> Pair<D> {
+    /// A fresh model and a fresh device of this make.
+    pub fn fresh(make: &D) -> Pair<D> {
+        Pair {
+            model: Unit::fresh(),
+            model_before: Unit::fresh(),
+            device: make.fresh(),
+            device_before: make.fresh(),
+            reads: [0; 256],
+        }
+    }
+
+    /// Gives the event to both. They must answer alike, and if they refuse it
+    /// both must be as before. The common answer is returned.
+    pub fn event(&mut self, fields: Fields) -> Result<u8, Mismatch> {
+        let Fields { kind, a, b, word } = fields;
+        self.model_before = self.model.clone();
+        self.device_before = self.device.clone();
+        let model = self.model.event_fields(kind, a, b, word);
+        let device = self.device.event(kind, a, b, word);
+        if model != device {
+            return Err(Mismatch::Refusal { model, device });
+        }
+        if model != 0 {
+            unchanged("model", &self.model_before, &self.model)?;
+            unchanged(self.device.name(), &self.device_before, &self.device)?;
+        }
+        Ok(model)
+    }
+
+    pub fn read(&mut self, address: u8) -> Result<(), Mismatch> {
+        self.reads[usize::from(address)] += 1;
+        let model = self.model.read(address);
+        let device = self.device.read(address);
+        if model == device {
+            Ok(())
+        } else {
+            Err(Mismatch::Read {
+                address,
+                model,
+                device,
+            })
+        }
+    }
+
+    /// Reads the 27 registers of the map.
+    pub fn read_map(&mut self) -> Result<(), Mismatch> {
+        for address in MAP.into_iter().flatten() {
+            self.read(address)?;
+        }
+        Ok(())
+    }
+
+    /// Reads all 256 addresses.
+    pub fn read_all(&mut self) -> Result<(), Mismatch> {
+        for address in 0..=255 {
+            self.read(address)?;
+        }
+        Ok(())
+    }
+}
+
+fn unchanged<T: PartialEq>(name: &'static str, before: &T, after: &T) -> Result<(), Mismatch> {
+    if before == after {
+        Ok(())
+    } else {
+        Err(Mismatch::Changed { name })
+    }
+}

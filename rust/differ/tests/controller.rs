@@ -1,0 +1,113 @@
+//! The real controller against the model: answers over a base seed of its own,
+//! and the fields of the state it shares with its host.
+#![cfg(feature = "controller")]
+
+use differ::coverage::Coverage;
+use differ::device::Device;
+use differ::run::{names, run_lists};
+
+const SEED: u64 = 2;
+
+fn find_difference<D: Device>(make: &D, lists: u32) -> Result<(), String> {
+    let mut coverage = Coverage::empty();
+    let outcome = run_lists(make, names(SEED, lists, 0), &mut coverage);
+    outcome.map_err(|difference| difference.to_string())
+}
+
+#[test]
+fn the_controller_answers_as_the_model() {
+    assert_eq!(find_difference(&controller::Unit::fresh(), 300), Ok(()));
+}
+
+/// The controller with a model beside it. An event after which their fields
+/// do not agree is answered by a refusal that there is not.
+#[derive(Clone, PartialEq)]
+struct Inspected {
+    controller: controller::Unit,
+    model: model::Unit,
+}
+
+const FIELDS_DISAGREE: u8 = 255;
+
+impl Inspected {
+    fn fresh_pair() -> Inspected {
+        Inspected {
+            controller: controller::Unit::fresh(),
+            model: model::Unit::fresh(),
+        }
+    }
+
+    fn fields_agree(&self) -> bool {
+        self.inputs_agree() && self.history_agrees() && self.selection_agrees()
+    }
+
+    fn inputs_agree(&self) -> bool {
+        let monitors = &self.controller.core.monitors;
+        self.model.inputs.iter().enumerate().all(|(i, input)| {
+            monitors.level[i] == u16::from(input.level)
+                && monitors.decay[i] == u16::from(input.decay)
+                && monitors.active[i] == u16::from(input.activity_alarm)
+                && monitors.frequency[i] == u16::from(input.frequency_alarm)
+                && monitors.remainder[i] == input.remainder
+                && monitors.soak[i] == u16::from(input.soak)
+        })
+    }
+
+    /// The block sums are compared by their total, in whatever order they lie.
+    fn history_agrees(&self) -> bool {
+        let unit = &self.controller;
+        let (tally, history) = (&unit.core.tally, &self.model.history);
+        let kept: i64 = unit.sums[..usize::from(tally.count)].iter().sum();
+        let backed: i64 = unit.backup[..usize::from(tally.backed)].iter().sum();
+        let backup = history.backup.clone().unwrap_or_default();
+        tally.open == history.open_sum
+            && u32::from(tally.filled) == history.open_samples
+            && usize::from(tally.count) == history.blocks.len()
+            && kept == history.sum_of_kept_blocks()
+            && usize::from(tally.backed) == backup.len()
+            && backed == backup.iter().sum()
+            && tally.last == history.last_reference.unwrap_or(0)
+            && tally.command == self.model.settings.command
+    }
+
+    fn selection_agrees(&self) -> bool {
+        let (core, model) = (&self.controller.core, &self.model);
+        let wait = model.wait;
+        core.choice.selected == model.selected
+            && core.choice.wait == wait.ticks
+            && (wait.ticks == 0 || core.choice.aim == wait.best)
+            && u64::from(core.holding) == model.holdover_ticks
+            && core.pll.mode == model.pll.state as u8
+            && core.pll.lock == model.pll.lock_run
+            && core.pll.unlock == model.pll.unlock_run
+    }
+}
+
+impl Device for Inspected {
+    fn name(&self) -> &'static str {
+        "controller and its fields"
+    }
+
+    fn fresh(&self) -> Inspected {
+        Inspected::fresh_pair()
+    }
+
+    fn event(&mut self, kind: u8, a: u8, b: u8, word: i32) -> u8 {
+        let refusal = self.controller.event(kind, a, b, word);
+        self.model.event_fields(kind, a, b, word);
+        if self.fields_agree() {
+            refusal
+        } else {
+            FIELDS_DISAGREE
+        }
+    }
+
+    fn read(&self, address: u8) -> (u8, u8) {
+        self.controller.read(address)
+    }
+}
+
+#[test]
+fn the_controllers_fields_are_the_models() {
+    assert_eq!(find_difference(&Inspected::fresh_pair(), 150), Ok(()));
+}

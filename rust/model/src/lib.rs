@@ -1,0 +1,23 @@
+//! The reference controller of the eight-input timing unit, written plainly
+//! from document 01. It is compared with the real controller; it shares no
+//! code with it. Sentences in quotation marks are document 01's.
+
+#![forbid(unsafe_code)]
+
+mod event;
+mod history;
+mod monitors;
+mod pll;
+mod refusal;
+mod registers;
+mod selection;
+mod unit;
+
+pub use event::Event;
+pub use history::{History, BLOCKS_FOR_READY, BLOCKS_KEPT, SAMPLES_PER_BLOCK};
+pub use monitors::{Input, LOCK_ALARM_TICKS, SOAK_TICKS};
+pub use pll::{Pll, State, LOCK_TICKS, UNLOCK_TICKS};
+pub use refusal::Refusal;
+pub use registers::{Register, Settings};
+pub use selection::{wait_limit, Wait, FREE_RUN, NONE};
+pub use unit::{Unit, SAMPLE_LIMIT, TICKS_PER_HOUR};

@@ -1,0 +1,106 @@
+//! The monitors of one input: tick steps 1 and 2, and measurements.
+
+/// "Good adds 1 to its soak up to 79 (10 s)"
+pub const SOAK_TICKS: u8 = 79;
+/// What a lock alarm's remainder starts from.
+pub const LOCK_ALARM_TICKS: u16 = 782;
+
+const LARGEST_LEVEL: u8 = 8;
+const TICKS_PER_DECAY: u8 = 2;
+const ALARM_SET_LEVEL: u8 = 6;
+const ALARM_CLEAR_LEVEL: u8 = 4;
+
+#[derive(Clone, Copy, Debug, PartialEq, Eq)]
+pub struct Input {
+    /// The activity bucket's level.
+    pub level: u8,
+    pub decay: u8,
+    pub activity_alarm: bool,
+    pub frequency_alarm: bool,
+    /// The lock alarm's remainder in ticks; the alarm stands while it is not 0.
+    pub remainder: u16,
+    pub soak: u8,
+}
+
+impl Input {
+    /// "Fresh: all counts 0, activity alarms clear, frequency alarms set"
+    pub fn fresh() -> Input {
+        Input {
+            level: 0,
+            decay: 0,
+            activity_alarm: false,
+            frequency_alarm: true,
+            remainder: 0,
+            soak: 0,
+        }
+    }
+
+    /// Step 1. "Bucket: an irregular tick adds 1 up to 8 and zeroes the decay
+    /// count. Otherwise the decay count rises; at 2 it is zeroed and the level
+    /// falls by 1, not below 0. Activity alarm: set at level 6 or more, cleared
+    /// at 4 or less, kept at 5."
+    pub fn watch_activity(&mut self, irregular: bool) {
+        if irregular {
+            if self.level < LARGEST_LEVEL {
+                self.level += 1;
+            }
+            self.decay = 0;
+        } else {
+            self.decay += 1;
+            if self.decay == TICKS_PER_DECAY {
+                self.decay = 0;
+                self.level = self.level.saturating_sub(1);
+            }
+        }
+        if self.level >= ALARM_SET_LEVEL {
+            self.activity_alarm = true;
+        } else if self.level <= ALARM_CLEAR_LEVEL {
+            self.activity_alarm = false;
+        }
+    }
+
+    /// Step 2. "A standing lock alarm's remainder falls by 1." "Good adds 1 to
+    /// its soak up to 79 (10 s), else soak is 0."
+    ///
+    /// Reading: good is judged after the remainder's fall, in the order of the
+    /// sentences, so the tick that takes it to 0 already adds to the soak.
+    pub fn count_soak(&mut self) {
+        self.remainder = self.remainder.saturating_sub(1);
+        if !self.good() {
+            self.soak = 0;
+        } else if self.soak < SOAK_TICKS {
+            self.soak += 1;
+        }
+    }
+
+    /// "An input is good when its activity and frequency alarms are clear and
+    /// the remainder is 0."
+    pub fn good(&self) -> bool {
+        !self.activity_alarm && !self.frequency_alarm && self.remainder == 0
+    }
+
+    /// "Qualified means soak 79"
+    pub fn qualified(&self) -> bool {
+        self.soak == SOAK_TICKS
+    }
+
+    /// "Unlock run 782 (100 s) sets that input's lock alarm remainder to 782
+    /// and its soak to 0."
+    pub fn set_lock_alarm(&mut self) {
+        self.remainder = LOCK_ALARM_TICKS;
+        self.soak = 0;
+    }
+
+    /// "A measurement's magnitude above the reject limit sets the frequency
+    /// alarm; at or below the qualification limit clears it; between, it is
+    /// kept."
+    pub fn measure(&mut self, offset: i8, reject: u8, qualification: u8) {
+        // The magnitude of −128 is 128, which an unsigned byte holds.
+        let magnitude = offset.unsigned_abs();
+        if magnitude > reject {
+            self.frequency_alarm = true;
+        } else if magnitude <= qualification {
+            self.frequency_alarm = false;
+        }
+    }
+}

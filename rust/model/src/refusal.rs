@@ -1,0 +1,29 @@
+//! The refusals of an event or a read, with the numbers of "Turned down".
+
+#[derive(Clone, Copy, Debug, PartialEq, Eq)]
+pub enum Refusal {
+    /// "address not in the map (a read gives 1 and byte 0)"
+    NotInTheMap = 1,
+    /// "write to R"
+    ReadOnly = 2,
+    /// "value above Largest"
+    AboveLargest = 3,
+    /// "reject − qualification would be under 6"
+    LimitsTooClose = 4,
+    /// "Hit with no reference 1 to 8 selected"
+    NoReferenceToHit = 5,
+    /// "input not 1 to 8"
+    NoSuchInput = 6,
+    /// "sample out of range"
+    SampleOutOfRange = 7,
+    /// "command 1 unless Ready, command 2 without backup"
+    CommandNotPossible = 8,
+    /// "kind over 3, lock over 1, or unused field not 0"
+    NoEvent = 12,
+}
+
+impl Refusal {
+    pub fn number(self) -> u8 {
+        self as u8
+    }
+}

@@ -1,0 +1,151 @@
+//! The choice of the reference and the state that follows from it: tick
+//! step 4. "Selected is 0 (none), 1 to 8, or 9 (Free Run as a candidate)."
+
+use crate::pll::State;
+use crate::unit::Unit;
+
+/// Selected when nothing is.
+pub const NONE: u8 = 0;
+/// Free Run as a candidate.
+pub const FREE_RUN: u8 = 9;
+
+/// The reversion wait: its count in ticks, and the best it counts for.
+#[derive(Clone, Copy, Debug, PartialEq, Eq)]
+pub struct Wait {
+    pub ticks: u32,
+    pub best: u8,
+}
+
+impl Wait {
+    pub const ZERO: Wait = Wait {
+        ticks: 0,
+        best: NONE,
+    };
+
+    /// "the wait rises by 1, or is 1 if it was 0 or counted for another best"
+    fn count_for(&mut self, best: u8) {
+        if self.ticks == 0 || self.best != best {
+            *self = Wait { ticks: 1, best };
+        } else {
+            self.ticks += 1;
+        }
+    }
+}
+
+/// "n being the least with 4n ≥ 1,875 times the delay in minutes"
+pub fn wait_limit(delay: u8) -> u32 {
+    (1_875 * u32::from(delay) + 3) / 4
+}
+
+impl Unit {
+    /// Step 4.
+    pub(crate) fn select(&mut self) {
+        let choice = if self.settings.automatic() {
+            self.automatic_choice()
+        } else {
+            self.manual_choice()
+        };
+        let changed = choice != self.selected;
+        if changed {
+            self.change_selection(choice);
+        }
+        self.pll.state = self.state_after_selection(changed);
+    }
+
+    /// "If the selected one is no candidate, the best is taken, or 0. If it is
+    /// best, it stays and the wait is 0. If it is not best and non-revertive,
+    /// it stays and the wait is 0. If revertive, the wait rises [...]; the
+    /// switch comes when wait − 1 is n or more".
+    ///
+    /// Revertive is bit 3 of the selected one, not of the best.
+    fn automatic_choice(&mut self) -> u8 {
+        let best = self.best();
+        if !self.is_candidate(self.selected) {
+            return best;
+        }
+        if self.selected == best || !self.settings.revertive(self.selected) {
+            self.wait = Wait::ZERO;
+            return self.selected;
+        }
+        self.wait.count_for(best);
+        // Wait − 1 is n or more when the wait is above n.
+        if self.wait.ticks > wait_limit(self.settings.delay) {
+            best
+        } else {
+            self.selected
+        }
+    }
+
+    /// "candidates are the available references by priority (0 best), then
+    /// number; Free Run, if enabled, stands after all references of equal
+    /// priority." As number 9 it does. 0 if there is no candidate.
+    pub fn best(&self) -> u8 {
+        (1..=FREE_RUN)
+            .filter(|&candidate| self.is_candidate(candidate))
+            .min_by_key(|&candidate| (self.settings.priority(candidate), candidate))
+            .unwrap_or(NONE)
+    }
+
+    fn is_candidate(&self, selected: u8) -> bool {
+        match selected {
+            1..=8 => self.available(selected),
+            FREE_RUN => self.settings.free_run_enabled(),
+            _ => false,
+        }
+    }
+
+    /// "Op_Mode s in 1 to 8 selects s if qualified, masked or not, else 0; 0
+    /// and 9 select 0. Any manual tick zeroes the wait."
+    fn manual_choice(&mut self) -> u8 {
+        self.wait = Wait::ZERO;
+        match self.settings.op_mode {
+            s @ 1..=8 if self.input(s).qualified() => s,
+            _ => NONE,
+        }
+    }
+
+    /// "Any change of selection zeroes the wait." "Both runs restart at 0 when
+    /// the selection changes." A reference selected may empty the history.
+    fn change_selection(&mut self, choice: u8) {
+        self.drop_selection();
+        self.selected = choice;
+        if (1..=8).contains(&choice) {
+            self.history
+                .reference_selected(choice, self.settings.policy);
+        }
+    }
+
+    /// Selected 0, wait and runs 0.
+    pub(crate) fn drop_selection(&mut self) {
+        self.selected = NONE;
+        self.wait = Wait::ZERO;
+        self.pll.restart_runs();
+    }
+
+    /// "Op_Mode 0 in manual, or selected 9, is Free Run. Else selected 0 is
+    /// Holdover if Ready, otherwise Free Run. A newly selected reference
+    /// starts Pre-locked if the state was Free Run, else Pre-locked 2."
+    fn state_after_selection(&self, changed: bool) -> State {
+        let manual_free_run = !self.settings.automatic() && self.settings.op_mode == 0;
+        if manual_free_run || self.selected == FREE_RUN {
+            State::FreeRun
+        } else if self.selected == NONE {
+            self.state_without_reference()
+        } else if !changed {
+            self.pll.state
+        } else if self.pll.state == State::FreeRun {
+            State::PreLocked
+        } else {
+            State::PreLocked2
+        }
+    }
+
+    /// "Holdover if Ready, otherwise Free Run"
+    pub(crate) fn state_without_reference(&self) -> State {
+        if self.history.ready() {
+            State::Holdover
+        } else {
+            State::FreeRun
+        }
+    }
+}

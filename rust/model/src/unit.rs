@@ -1,0 +1,260 @@
+//! The whole unit: its state, its events, its registers.
+
+use crate::event::Event;
+use crate::history::History;
+use crate::monitors::Input;
+use crate::pll::{Pll, State, UNLOCK_TICKS};
+use crate::refusal::Refusal;
+use crate::registers::{Register, Settings};
+use crate::selection::Wait;
+
+/// Samples run from −125,000,000 to 125,000,000.
+pub const SAMPLE_LIMIT: i32 = 125_000_000;
+/// "whole hours (28,125 ticks)"
+pub const TICKS_PER_HOUR: u64 = 28_125;
+
+/// "reject − qualification would be under 6" is refused.
+const LEAST_GAP: u8 = 6;
+
+#[derive(Clone, Debug, PartialEq, Eq)]
+pub struct Unit {
+    pub inputs: [Input; 8],
+    pub pll: Pll,
+    pub selected: u8,
+    pub wait: Wait,
+    pub history: History,
+    /// Ticks in Holdover after the event that entered it.
+    pub holdover_ticks: u64,
+    pub settings: Settings,
+}
+
+impl Unit {
+    /// "Fresh: all counts 0, activity alarms clear, frequency alarms set,
+    /// selected 0, Free Run."
+    pub fn fresh() -> Unit {
+        Unit {
+            inputs: [Input::fresh(); 8],
+            pll: Pll::fresh(),
+            selected: 0,
+            wait: Wait::ZERO,
+            history: History::fresh(),
+            holdover_ticks: 0,
+            settings: Settings::fresh(),
+        }
+    }
+
+    /// Takes one event: 0, or the number of the refusal that turned it down
+    /// and left the state as it was.
+    pub fn event(&mut self, event: &Event) -> u8 {
+        let outcome = match *event {
+            Event::Tick { mask, lock, sample } => self.tick(mask, lock, sample),
+            Event::Measurement { input, offset } => self.measurement(input, offset),
+            Event::Hit => self.hit(),
+            Event::Write { address, value } => self.write(address, value),
+        };
+        match outcome {
+            Ok(()) => 0,
+            Err(refusal) => refusal.number(),
+        }
+    }
+
+    /// Takes the fields of one event; 12 if they are no event.
+    ///
+    /// Reading: 12 comes before the event's own numbers, although "Checked in
+    /// number order" would put 6 or 7 first, because a sheet with such fields
+    /// is turned down before any of its events runs.
+    pub fn event_fields(&mut self, kind: u8, a: u8, b: u8, word: i32) -> u8 {
+        match Event::from_fields(kind, a, b, word) {
+            Some(event) => self.event(&event),
+            None => Refusal::NoEvent.number(),
+        }
+    }
+
+    /// The five steps of a tick. Steps 1 and 2 of one input do not touch
+    /// another.
+    fn tick(&mut self, mask: u8, lock: bool, sample: i32) -> Result<(), Refusal> {
+        if !(-SAMPLE_LIMIT..=SAMPLE_LIMIT).contains(&sample) {
+            return Err(Refusal::SampleOutOfRange);
+        }
+        let state_before = self.pll.state;
+        for (bit, input) in self.inputs.iter_mut().enumerate() {
+            input.watch_activity(mask & (1 << bit) != 0); // step 1
+            input.count_soak(); // step 2
+        }
+        self.follow_lock(lock); // step 3
+        self.select(); // step 4
+        self.history.end_of_tick(self.locked(), sample); // step 5
+        self.count_holdover(state_before);
+        Ok(())
+    }
+
+    /// Step 3. "Only if a reference 1 to 8 is selected when the tick begins.":
+    /// the steps before it do not change what is selected. "Unlock run 782
+    /// (100 s) sets that input's lock alarm remainder to 782 and its soak to
+    /// 0."
+    fn follow_lock(&mut self, lock: bool) {
+        if !self.reference_selected() {
+            return;
+        }
+        self.pll.follow_lock(lock);
+        if self.pll.unlock_run == UNLOCK_TICKS {
+            self.input_mut(self.selected).set_lock_alarm();
+        }
+    }
+
+    /// "whole hours (28,125 ticks) in Holdover after the entering event": the
+    /// tick that enters Holdover is not counted, each later one is.
+    fn count_holdover(&mut self, state_before: State) {
+        let stayed = state_before == State::Holdover && self.pll.state == State::Holdover;
+        self.holdover_ticks = if stayed { self.holdover_ticks + 1 } else { 0 };
+    }
+
+    fn measurement(&mut self, input: u8, offset: i8) -> Result<(), Refusal> {
+        if !(1..=8).contains(&input) {
+            return Err(Refusal::NoSuchInput);
+        }
+        let (reject, qualification) = (self.settings.reject, self.settings.qualification);
+        self.input_mut(input).measure(offset, reject, qualification);
+        Ok(())
+    }
+
+    /// "Hit: the selected reference's soak becomes 0, selected 0, wait and
+    /// runs 0, the open block empties, state Holdover or Free Run by Ready."
+    ///
+    /// Reading: by Ready alone. With Op_Mode 0 in manual and a reference still
+    /// selected from before, a Ready unit goes to Holdover; the rule for
+    /// Op_Mode 0 makes it Free Run at the next tick.
+    fn hit(&mut self) -> Result<(), Refusal> {
+        if !self.reference_selected() {
+            return Err(Refusal::NoReferenceToHit);
+        }
+        self.input_mut(self.selected).soak = 0;
+        self.drop_selection();
+        self.history.empty_open_block();
+        self.pll.state = self.state_without_reference();
+        self.holdover_ticks = 0;
+        Ok(())
+    }
+
+    /// A write, refused by the first of 1, 2, 3, 4 and 8 that holds.
+    fn write(&mut self, address: u8, value: u8) -> Result<(), Refusal> {
+        let register = Register::at(address).ok_or(Refusal::NotInTheMap)?;
+        let largest = register.largest().ok_or(Refusal::ReadOnly)?;
+        if value > largest {
+            return Err(Refusal::AboveLargest);
+        }
+        let settings = self.settings.with(register, value);
+        // Only a write of one of the two limits can bring them too close.
+        if settings.reject < settings.qualification + LEAST_GAP {
+            return Err(Refusal::LimitsTooClose);
+        }
+        if register == Register::Command {
+            if !self.history.command_possible(value) {
+                return Err(Refusal::CommandNotPossible);
+            }
+            self.history.command(value);
+        }
+        self.settings = settings;
+        Ok(())
+    }
+
+    /// Reads an address: (0, its byte), or (1, 0) if it is not in the map.
+    pub fn read(&self, address: u8) -> (u8, u8) {
+        match Register::at(address) {
+            Some(register) => (0, self.register(register)),
+            None => (Refusal::NotInTheMap.number(), 0),
+        }
+    }
+
+    fn register(&self, register: Register) -> u8 {
+        let settings = &self.settings;
+        match register {
+            Register::Input(input) => settings.inputs[usize::from(input) - 1],
+            Register::FreeRun => settings.free_run,
+            Register::Policy => settings.policy,
+            Register::Command => settings.command,
+            Register::Hours => self.hours(),
+            Register::Control => settings.control,
+            Register::OpMode => settings.op_mode,
+            Register::Mask => settings.mask,
+            Register::Delay => settings.delay,
+            Register::Reject => settings.reject,
+            Register::Qualification => settings.qualification,
+            Register::QualifiedMask => self.qualified_mask(),
+            Register::AvailableMask => self.available_mask(),
+            Register::StateAndSelected => 16 * self.pll.state as u8 + self.selected,
+            Register::Flags => self.flags(),
+            Register::Value(byte) => self.value().to_le_bytes()[usize::from(byte)],
+            Register::AvailableCount => self.available_mask().count_ones() as u8,
+        }
+    }
+
+    /// "whole hours (28,125 ticks) in Holdover after the entering event, at
+    /// most 255, else 0"
+    pub fn hours(&self) -> u8 {
+        (self.holdover_ticks / TICKS_PER_HOUR).min(255) as u8
+    }
+
+    /// "bit 0 alarm (Holdover or Free Run), bit 1 not Locked, bit 2 Ready, bit
+    /// 3 backup held"
+    fn flags(&self) -> u8 {
+        let alarm = matches!(self.pll.state, State::Holdover | State::FreeRun);
+        u8::from(alarm)
+            + 2 * u8::from(!self.locked())
+            + 4 * u8::from(self.ready())
+            + 8 * u8::from(self.backup_held())
+    }
+
+    /// The history's value; "0 unless Ready".
+    pub fn value(&self) -> i32 {
+        match self.history.value() {
+            Some(value) if self.ready() => value as i32,
+            _ => 0,
+        }
+    }
+
+    pub fn ready(&self) -> bool {
+        self.history.ready()
+    }
+
+    pub fn backup_held(&self) -> bool {
+        self.history.backup.is_some()
+    }
+
+    pub fn locked(&self) -> bool {
+        self.pll.state == State::Locked
+    }
+
+    pub fn reference_selected(&self) -> bool {
+        (1..=8).contains(&self.selected)
+    }
+
+    pub fn input(&self, input: u8) -> &Input {
+        &self.inputs[usize::from(input) - 1]
+    }
+
+    fn input_mut(&mut self, input: u8) -> &mut Input {
+        &mut self.inputs[usize::from(input) - 1]
+    }
+
+    /// "available means qualified and unmasked"
+    pub fn available(&self, input: u8) -> bool {
+        self.input(input).qualified() && self.settings.unmasked(input)
+    }
+
+    pub fn qualified_mask(&self) -> u8 {
+        mask_of(|input| self.input(input).qualified())
+    }
+
+    pub fn available_mask(&self) -> u8 {
+        mask_of(|input| self.available(input))
+    }
+}
+
+/// "in every mask bit i−1 is input i"
+fn mask_of(holds: impl Fn(u8) -> bool) -> u8 {
+    (1..=8)
+        .filter(|&input| holds(input))
+        .map(|input| 1 << (input - 1))
+        .sum()
+}
