@@ -7,6 +7,7 @@ use lib.IntN.{ℤ}
 use lib.ListN.{length}
 use Rattle.rules.specs.Words.{if_then_else_}
 use Rattle.rules.specs.Settings.{Settings}
+use Rattle.rules.specs.History.{History}
 use Rattle.rules.specs.State.{State}
 use Rattle.rules.specs.Registers.{settingsFrom}
 use Rattle.monitor.specs.Bridge.{inputsOf}
@@ -49,6 +50,11 @@ Ticks k t rule = (sums backup : List ℤ) → length sums ≡ 64 → stateOf (t 
 abbrev pub withSettings : Settings → State → State
 withSettings set s =
     record { inputs = s .inputs; settings = set; loop = s .loop; choice = s .choice; history = s .history; holding = s .holding }
+
+-- a state with another history
+abbrev pub withHistory : History → State → State
+withHistory h s =
+    record { inputs = s .inputs; settings = s .settings; loop = s .loop; choice = s .choice; history = h; holding = s .holding }
 
 -- the rules' state that a whole unit is
 abbrev pub modelOf : code.Unit → State

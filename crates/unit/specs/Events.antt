@@ -1,4 +1,6 @@
 -- From the code's events, outcomes and answers to the rules'.
+use mathlib.Core.List.{List}
+use lib.IntN.{ℤ}
 use Rattle.rules.specs.Events as rules
 use Rattle.rules.specs.Events.{tick, measurement, hit, write}
 use Rattle.rules.specs.Sheet.{signedByte}
@@ -6,9 +8,10 @@ use Rattle.rules.specs.Run as run
 use Rattle.rules.specs.Reading as reading
 use Rattle.unit.specs.declared.Event.{Event}
 use Rattle.unit.specs.declared.Event.the-variants.{Tick, Measurement, Hit, Write}
+use Rattle.unit.specs.declared.Stepped.{Stepped}
 use Rattle.unit.specs.declared.Outcome.{Outcome}
 use Rattle.unit.specs.declared.Answer.{Answer}
-use Rattle.unit.specs.Bridge.{modelOf}
+use Rattle.unit.specs.Bridge.{stateOf, modelOf}
 
 -- the rules' event that an event of the code is
 abbrev pub eventOf : Event → rules.Event
@@ -16,6 +19,10 @@ eventOf (Tick mask lock x) = tick mask lock x
 eventOf (Measurement i offset) = measurement i (signedByte offset)
 eventOf Hit = hit
 eventOf (Write a v) = write a v
+
+-- the rules' outcome that a step is, with the sums and the backup's as it left them
+abbrev pub steppedOf : Stepped → List ℤ → List ℤ → run.Outcome
+steppedOf s sums backup = record { refusal = s .refusal; state = stateOf (s .core) sums backup }
 
 -- the rules' outcome that an outcome of the code is
 abbrev pub outcomeOf : Outcome → run.Outcome

@@ -13,16 +13,17 @@ ghost use Rattle.rules.specs.Tick.{inputsAfter, loopAfter, steps1to4};
 ghost use Rattle.rules.specs.Registers as map;
 ghost use Rattle.rules.specs.Registers.{inMap, written, settingsFrom};
 ghost use Rattle.rules.specs.State.{Ready};
-ghost use Rattle.rules.specs.History.{value};
+ghost use Rattle.rules.specs.History.{commanded, value};
 ghost use Rattle.rules.specs.Reading as reading;
 ghost use Rattle.rules.specs.Sheet.{signedByte};
 ghost use Rattle.rules.specs.Events as events;
 ghost use Rattle.rules.specs.Events.{sampleLimit};
 ghost use Rattle.rules.specs.Run.{afterMeasurement, afterHit, afterWrite, outcome};
 ghost use Rattle.monitor.specs.Bridge.{inputsOf};
+ghost use Rattle.history.specs.Bridge.{historyOf, pushed};
 ghost use Rattle.pll.specs.Bridge.{loopOf};
-ghost use Rattle.unit.specs.Bridge.{stateOf, Changes, Steps, Ticks, withSettings, modelOf};
-ghost use Rattle.unit.specs.Events.{eventOf, outcomeOf, answerOf};
+ghost use Rattle.unit.specs.Bridge.{stateOf, Changes, Steps, Ticks, withSettings, withHistory, modelOf};
+ghost use Rattle.unit.specs.Events.{eventOf, steppedOf, outcomeOf, answerOf};
 use arith::both;
 use arith::one_to_eight;
 use arith::weigh;
@@ -175,6 +176,193 @@ fn set_register(a: u8, v: u8, k: Core) -> Core
     next
 }
 
+// ---- an event, with the sums lent
+
+// The four events.
+pub enum Event {
+    // irregular mask, lock flag, sample
+    Tick(u8, bool, i32),
+    // input, offset as a byte in two's complement
+    Measurement(u8, u8),
+    Hit,
+    // address, value
+    Write(u8, u8),
+}
+
+// What an event gives, with the sums lent: its refusal number, 0 if it is accepted, and the core.
+#[repr(C)]
+pub struct Stepped {
+    pub refusal: u8,
+    pub core: Core,
+}
+
+// `pushed`, where the sums lie.
+fn push_sum(sums: &mut [i64; 64], x: i64)
+    ensures { λ _. ⌜ now (sums .exit) ≡ pushed x (now (sums .entry)) ⌝ }
+{
+    let old = *sums;
+    let new = history::push(old, x);
+    *sums = new;
+}
+
+// The rule `ticked`: a completed block's sum is pushed.
+fn tick_and_push(mask: u8, lock: bool, x: i32, k: Core, sums: &mut [i64; 64]) -> Core
+    ensures { λ r. ⌜ ((backup : List ℤ) → length (now (sums .entry)) ≡ 64 → stateOf r (now (sums .exit)) backup ≡ rules.ticked mask lock x (stateOf k (now (sums .entry)) backup)) ⌝ }
+{
+    let t = tick(mask, lock, x, k);
+    if t.done {
+        push_sum(sums, t.sum);
+        return t.core;
+    }
+    t.core
+}
+
+// The rule `commanded`: a write of 0x26.
+fn command(v: u8, k: Core, sums: &mut [i64; 64], backup: &mut [i64; 64]) -> Core
+    ensures { λ r. ⌜ stateOf r (now (sums .exit)) (now (backup .exit)) ≡ withHistory (commanded v (historyOf (k .tally) (now (sums .entry)) (now (backup .entry)))) (stateOf k (now (sums .entry)) (now (backup .entry))) ⌝ }
+{
+    let tally = k.tally;
+    let old = *sums;
+    let saved = *backup;
+    let h = history::commanded(
+        v,
+        History {
+            tally: tally,
+            sums: old,
+            backup: saved,
+        },
+    );
+    let t = h.tally;
+    let new = h.sums;
+    let kept = h.backup;
+    *sums = new;
+    *backup = kept;
+    let mut next = k;
+    next.tally = t;
+    next
+}
+
+// Refusal 7: "sample out of range".
+fn in_range(x: i32) -> bool
+    ensures { λ r. ⌜ r ≡ leb (natAbs x) sampleLimit ⌝ }
+{
+    if x < -125_000_000 {
+        return false;
+    }
+    x <= 125_000_000
+}
+
+// A tick, or refusal 7.
+fn on_tick(mask: u8, lock: bool, x: i32, k: Core, sums: &mut [i64; 64]) -> Stepped
+    ensures { λ r. ⌜ ((backup : List ℤ) → length (now (sums .entry)) ≡ 64 → steppedOf r (now (sums .exit)) backup ≡ outcome (stateOf k (now (sums .entry)) backup) (events.tick mask lock x)) ⌝ }
+{
+    let ok = in_range(x);
+    if ok {
+        let next = tick_and_push(mask, lock, x, k, sums);
+        return Stepped {
+            refusal: 0,
+            core: next,
+        };
+    }
+    Stepped {
+        refusal: 7,
+        core: k,
+    }
+}
+
+// A measurement, or refusal 6: "input not 1 to 8".
+fn on_measurement(i: u8, offset: u8, k: Core) -> Stepped
+    ensures { λ r. ⌜ ((sums backup : List ℤ) → steppedOf r sums backup ≡ outcome (stateOf k sums backup) (events.measurement i (signedByte offset))) ⌝ }
+{
+    let ok = one_to_eight(i);
+    if ok {
+        let next = measurement(i, offset, k);
+        return Stepped {
+            refusal: 0,
+            core: next,
+        };
+    }
+    Stepped {
+        refusal: 6,
+        core: k,
+    }
+}
+
+// A Hit, or refusal 5: "Hit with no reference 1 to 8 selected".
+fn on_hit(k: Core) -> Stepped
+    ensures { λ r. ⌜ ((sums backup : List ℤ) → length sums ≡ 64 → steppedOf r sums backup ≡ outcome (stateOf k sums backup) events.hit) ⌝ }
+{
+    let ok = one_to_eight(k.choice.selected);
+    if ok {
+        let next = hit(k);
+        return Stepped {
+            refusal: 0,
+            core: next,
+        };
+    }
+    Stepped {
+        refusal: 5,
+        core: k,
+    }
+}
+
+// The rule `afterWrite`: 0x26 is a command to the history, any other register of the map a setting.
+fn write_accepted(a: u8, v: u8, k: Core, sums: &mut [i64; 64], backup: &mut [i64; 64]) -> Core
+    ensures { λ r. ⌜ (inMap a ≡ true → stateOf r (now (sums .exit)) (now (backup .exit)) ≡ afterWrite a v (stateOf k (now (sums .entry)) (now (backup .entry)))) ⌝ }
+{
+    if a == 0x26 {
+        return command(v, k, sums, backup);
+    }
+    set_register(a, v, k)
+}
+
+// A write, or the first of refusals 1, 2, 3, 4 and 8 that fits.
+fn on_write(a: u8, v: u8, k: Core, sums: &mut [i64; 64], backup: &mut [i64; 64]) -> Stepped
+    ensures { λ r. ⌜ (length (now (sums .entry)) ≡ 64 → length (now (backup .entry)) ≡ 64 → steppedOf r (now (sums .exit)) (now (backup .exit)) ≡ outcome (stateOf k (now (sums .entry)) (now (backup .entry))) (events.write a v)) ⌝ }
+{
+    let regs = k.regs;
+    let tally = k.tally;
+    let number = registers::write_refusal(
+        regs,
+        a,
+        v,
+        history::is_ready(tally),
+        history::holds_backup(tally),
+    );
+    if number == 0 {
+        let next = write_accepted(a, v, k, sums, backup);
+        return Stepped {
+            refusal: 0,
+            core: next,
+        };
+    }
+    Stepped {
+        refusal: number,
+        core: k,
+    }
+}
+
+// Sums have their 64 places: what their type says, as a fact. It costs nothing when compiled.
+fn places(sums: [i64; 64]) -> usize
+    ensures { λ r. ⌜ length sums ≡ 64 ⌝ }
+{
+    sums.len()
+}
+
+// The rule `outcome`, with the kept sums and the backup's lent.
+pub fn step(e: Event, k: Core, sums: &mut [i64; 64], backup: &mut [i64; 64]) -> Stepped
+    ensures { λ r. ⌜ steppedOf r (now (sums .exit)) (now (backup .exit)) ≡ outcome (stateOf k (now (sums .entry)) (now (backup .entry))) (eventOf e) ⌝ }
+{
+    places(*sums);
+    places(*backup);
+    match e {
+        Event::Tick(mask, lock, x) => on_tick(mask, lock, x, k, sums),
+        Event::Measurement(i, offset) => on_measurement(i, offset, k),
+        Event::Hit => on_hit(k),
+        Event::Write(a, v) => on_write(a, v, k, sums, backup),
+    }
+}
+
 // ---- the unit
 
 // The whole state: the core, the kept block sums, newest first, and the backup's.
@@ -212,19 +400,6 @@ pub fn fresh() -> Unit
     }
 }
 
-// ---- events
-
-// The four events.
-pub enum Event {
-    // irregular mask, lock flag, sample
-    Tick(u8, bool, i32),
-    // input, offset as a byte in two's complement
-    Measurement(u8, u8),
-    Hit,
-    // address, value
-    Write(u8, u8),
-}
-
 // What an event gives: its refusal number, 0 if it is accepted, and the unit.
 #[repr(C)]
 pub struct Outcome {
@@ -232,159 +407,21 @@ pub struct Outcome {
     pub unit: Unit,
 }
 
-// The rule `ticked` on a whole unit: a completed block's sum is pushed.
-fn unit_ticked(mask: u8, lock: bool, x: i32, u: Unit) -> Unit
-    ensures { λ r. ⌜ modelOf r ≡ rules.ticked mask lock x (modelOf u) ⌝ }
-{
-    let t = tick(mask, lock, x, u.core);
-    let core = t.core;
-    let mut next = u;
-    next.core = core;
-    if t.done {
-        let old = u.sums;
-        let sums = history::push(old, t.sum);
-        next.sums = sums;
-        return next;
-    }
-    next
-}
-
-// The rule `afterWrite`: 0x26 is a command to the history, any other register of the map a setting.
-fn unit_written(a: u8, v: u8, u: Unit) -> Unit
-    ensures { λ r. ⌜ (inMap a ≡ true → modelOf r ≡ afterWrite a v (modelOf u)) ⌝ }
-{
-    let mut next = u;
-    if a == 0x26 {
-        let tally = u.core.tally;
-        let sums = u.sums;
-        let backup = u.backup;
-        let h = history::commanded(
-            v,
-            History {
-                tally: tally,
-                sums: sums,
-                backup: backup,
-            },
-        );
-        let mut core = u.core;
-        let t = h.tally;
-        core.tally = t;
-        let kept = h.sums;
-        let saved = h.backup;
-        return Unit {
-            core: core,
-            sums: kept,
-            backup: saved,
-        };
-    }
-    let core = set_register(a, v, u.core);
-    next.core = core;
-    next
-}
-
-// Refusal 7: "sample out of range".
-fn in_range(x: i32) -> bool
-    ensures { λ r. ⌜ r ≡ leb (natAbs x) sampleLimit ⌝ }
-{
-    if x < -125_000_000 {
-        return false;
-    }
-    x <= 125_000_000
-}
-
-// A tick, or refusal 7.
-fn on_tick(mask: u8, lock: bool, x: i32, u: Unit) -> Outcome
-    ensures { λ r. ⌜ outcomeOf r ≡ outcome (modelOf u) (events.tick mask lock x) ⌝ }
-{
-    let ok = in_range(x);
-    if ok {
-        let next = unit_ticked(mask, lock, x, u);
-        return Outcome {
-            refusal: 0,
-            unit: next,
-        };
-    }
-    Outcome {
-        refusal: 7,
-        unit: u,
-    }
-}
-
-// A measurement, or refusal 6: "input not 1 to 8".
-fn on_measurement(i: u8, offset: u8, u: Unit) -> Outcome
-    ensures { λ r. ⌜ outcomeOf r ≡ outcome (modelOf u) (events.measurement i (signedByte offset)) ⌝ }
-{
-    let ok = one_to_eight(i);
-    if ok {
-        let core = measurement(i, offset, u.core);
-        let mut next = u;
-        next.core = core;
-        return Outcome {
-            refusal: 0,
-            unit: next,
-        };
-    }
-    Outcome {
-        refusal: 6,
-        unit: u,
-    }
-}
-
-// A Hit, or refusal 5: "Hit with no reference 1 to 8 selected".
-fn on_hit(u: Unit) -> Outcome
-    ensures { λ r. ⌜ outcomeOf r ≡ outcome (modelOf u) events.hit ⌝ }
-{
-    let ok = one_to_eight(u.core.choice.selected);
-    if ok {
-        let core = hit(u.core);
-        let mut next = u;
-        next.core = core;
-        return Outcome {
-            refusal: 0,
-            unit: next,
-        };
-    }
-    Outcome {
-        refusal: 5,
-        unit: u,
-    }
-}
-
-// A write, or the first of refusals 1, 2, 3, 4 and 8 that fits.
-fn on_write(a: u8, v: u8, u: Unit) -> Outcome
-    ensures { λ r. ⌜ outcomeOf r ≡ outcome (modelOf u) (events.write a v) ⌝ }
-{
-    let regs = u.core.regs;
-    let tally = u.core.tally;
-    let number = registers::write_refusal(
-        regs,
-        a,
-        v,
-        history::is_ready(tally),
-        history::holds_backup(tally),
-    );
-    if number == 0 {
-        let next = unit_written(a, v, u);
-        return Outcome {
-            refusal: 0,
-            unit: next,
-        };
-    }
-    Outcome {
-        refusal: number,
-        unit: u,
-    }
-}
-
 // The rule `outcome`: an event's number, and the unit that it leaves.
 pub fn handle(e: Event, u: Unit) -> Outcome
     ensures { λ r. ⌜ outcomeOf r ≡ outcome (modelOf u) (eventOf e) ⌝ }
 {
-    match e {
-        Event::Tick(mask, lock, x) => on_tick(mask, lock, x, u),
-        Event::Measurement(i, offset) => on_measurement(i, offset, u),
-        Event::Hit => on_hit(u),
-        Event::Write(a, v) => on_write(a, v, u),
+    let mut sums = u.sums;
+    let mut backup = u.backup;
+    let s = step(e, u.core, &mut sums, &mut backup);
+    let core = s.core;
+    Outcome {
+        refusal: s.refusal,
+        unit: Unit {
+            core: core,
+            sums: sums,
+            backup: backup,
+        },
     }
 }
 

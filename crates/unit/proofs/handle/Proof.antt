@@ -1,44 +1,10 @@
--- Each event is handled by its own function.
-use mathlib.Core.Path.{_≡_, ap, _∙_}
-use lib.IntN.{ℤ}
+-- A step, on copies of the sums.
 use borrow.Author.Needs.{needs}
-use Rattle.rules.specs.Events.{tick}
-use Rattle.rules.specs.Run.{outcome}
-use Rattle.unit.specs.Bridge.{modelOf}
 use Rattle.unit.proofs.handle.Statement.{statement}
-use mir.Syntax.{w32}
-use mir.Val.{toZ, ofZ}
 use Rattle.unit.proofs.handle.Tie as tie
 
 returns : tie.Need-returns
-returns c =
-    let a = c .before .before .before .before .args in
-    let p = c .before .before .e .given .0 in
-    let told : toZ w32 (ofZ w32 (p .1 .1 .0)) ≡ p .1 .1 .0 = search needs in
-    rw (c .before .before .e .given .1) (c .on-tick .ensures ∙ ap (λ (x : ℤ). outcome (modelOf (a .u)) (tick (p .0) (p .1 .0) x)) told)
-
-returns-2 : tie.Need-returns-2
-returns-2 c = rw (c .before .before .e2 .given .1) (c .on-measurement .ensures)
-
-returns-3 : tie.Need-returns-3
-returns-3 c = rw (c .before .enum-told .given .1) (c .on-hit .ensures)
-
-returns-4 : tie.Need-returns-4
-returns-4 c = rw (c .before .before .e3 .given .1) (c .on-write .ensures)
+returns c = c .before .step .ensures
 
 pub handle-spec : {M : Type 1} → statement M
-handle-spec =
-    tie.close
-    (tie.spec
-    (search needs)
-    (search needs)
-    (search needs)
-    (search needs)
-    (search needs)
-    (search needs)
-    (search needs)
-    (search needs)
-    returns
-    returns-2
-    returns-3
-    returns-4)
+handle-spec = tie.close (tie.spec (search needs) returns)

@@ -5,7 +5,7 @@ use native.Mathlib.Omega.{arith}
 use borrow.Author.Needs.{needs}
 use Rattle.rules.specs.Refusals.{refusal}
 use Rattle.rules.specs.Run.{effect}
-use Rattle.unit.specs.Bridge.{modelOf}
+use Rattle.unit.specs.Bridge.{stateOf}
 use Rattle.unit.proofs.Outcomes.{accepted-outcome, refused-outcome}
 use Rattle.unit.proofs.on_hit.Statement.{statement}
 use Rattle.rules.specs.Events as events
@@ -13,18 +13,18 @@ use Rattle.unit.proofs.on_hit.Tie as tie
 
 returns : tie.Need-returns
 unfolding refusal effect
-returns c =
+returns c sums backup places =
     let a = c .before .before .before .args in
-    let s = modelOf (a .u) in
+    let s = stateOf (a .k) sums backup in
     let e = events.hit in
     let number : _≡_ {A = ℕ} 0 (refusal s e) = rw (← c .before .before .one-to-eight .ensures, c .before .if1 .taken) refl in
-    accepted-outcome s e number refl (c .hit .ensures (a .u .sums) (a .u .backup) (search needs))
+    accepted-outcome s e number refl (c .hit .ensures sums backup places)
 
 returns-2 : tie.Need-returns-2
 unfolding refusal
-returns-2 c =
+returns-2 c sums backup places =
     let a = c .before .before .args in
-    let s = modelOf (a .u) in
+    let s = stateOf (a .k) sums backup in
     let e = events.hit in
     let number : _≡_ {A = ℕ} 5 (refusal s e) = rw (← c .before .one-to-eight .ensures, c .if1 .left) refl in
     refused-outcome s e number (λ z. omega arith)
