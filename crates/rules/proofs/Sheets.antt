@@ -18,7 +18,7 @@ use Rattle.rules.proofs.Tests.{if-case, and-left, and-right, unrefused}
 
 -- ---- the output
 
-length-settings : (k : ℕ) (l : List ℕ) → length (settingsOf k l) ≡ k
+pub length-settings : (k : ℕ) (l : List ℕ) → length (settingsOf k l) ≡ k
 unfolding settingsOf
 length-settings zero l = refl
 length-settings (suc k) l = ap suc (length-settings k (drop 2 l))
@@ -36,7 +36,7 @@ length-events (suc k) l e =
     length-before (decode l) (eventsOf k (drop 8 l)) (and-left (isEvent (decode l)) (allEvents k (drop 8 l)) e)
     ∙ ap suc (length-events k (drop 8 l) (and-right (isEvent (decode l)) (allEvents k (drop 8 l)) e))
 
-length-records : (s : State) (es : List Event) → length (records s es) ≡ 4 * length es
+pub length-records : (s : State) (es : List Event) → length (records s es) ≡ 4 * length es
 unfolding records recordOf
 length-records s [] = refl
 length-records s (e ∷ es) = omega (arith, length-records (outcome s e .state) es)

@@ -349,8 +349,8 @@ fn places(sums: [i64; 64]) -> usize
     sums.len()
 }
 
-// The rule `outcome`, with the kept sums and the backup's lent.
-pub fn step(e: Event, k: Core, sums: &mut [i64; 64], backup: &mut [i64; 64]) -> Stepped
+// The rule `outcome`, event by event.
+fn on_event(e: Event, k: Core, sums: &mut [i64; 64], backup: &mut [i64; 64]) -> Stepped
     ensures { λ r. ⌜ steppedOf r (now (sums .exit)) (now (backup .exit)) ≡ outcome (stateOf k (now (sums .entry)) (now (backup .entry))) (eventOf e) ⌝ }
 {
     places(*sums);
@@ -361,6 +361,17 @@ pub fn step(e: Event, k: Core, sums: &mut [i64; 64], backup: &mut [i64; 64]) -> 
         Event::Hit => on_hit(k),
         Event::Write(a, v) => on_write(a, v, k, sums, backup),
     }
+}
+
+// The rule `outcome`, with the kept sums and the backup's lent; both have their 64 places after it.
+pub fn step(e: Event, k: Core, sums: &mut [i64; 64], backup: &mut [i64; 64]) -> Stepped
+    ensures { λ r. ⌜ steppedOf r (now (sums .exit)) (now (backup .exit)) ≡ outcome (stateOf k (now (sums .entry)) (now (backup .entry))) (eventOf e) ⌝ }
+    ensures { λ _. ⌜ (length (now (sums .exit)) ≡ 64) × (length (now (backup .exit)) ≡ 64) ⌝ }
+{
+    let s = on_event(e, k, sums, backup);
+    places(*sums);
+    places(*backup);
+    s
 }
 
 // ---- the unit
@@ -449,7 +460,7 @@ fn hours(k: Core) -> u8
 }
 
 // 0x48, the rule `stateByte`: state and selected.
-fn state_byte(k: Core) -> u8
+pub fn state_byte(k: Core) -> u8
     ensures { λ r. ⌜ ((sums backup : List ℤ) → r ≡ reading.stateByte (stateOf k sums backup)) ⌝ }
 {
     let mode = pll::mode_number(k.pll.mode);
@@ -464,7 +475,7 @@ fn either(a: bool, b: bool) -> bool
 }
 
 // 0x49, the rule `statusByte`: alarm, not Locked, Ready, backup held.
-fn status_byte(k: Core) -> u8
+pub fn status_byte(k: Core) -> u8
     ensures { λ r. ⌜ ((sums backup : List ℤ) → length sums ≡ 64 → length backup ≡ 64 → r ≡ reading.statusByte (stateOf k sums backup)) ⌝ }
 {
     let mode = k.pll.mode;

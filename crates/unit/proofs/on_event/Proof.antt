@@ -5,11 +5,11 @@ use borrow.Author.Needs.{needs}
 use Rattle.rules.specs.Events.{tick}
 use Rattle.rules.specs.Run.{outcome}
 use Rattle.unit.specs.Bridge.{stateOf}
-use Rattle.unit.proofs.step.Statement.{statement}
+use Rattle.unit.proofs.on_event.Statement.{statement}
 use denote.Ref.{now}
 use mir.Syntax.{w32}
 use mir.Val.{toZ, ofZ}
-use Rattle.unit.proofs.step.Tie as tie
+use Rattle.unit.proofs.on_event.Tie as tie
 
 returns : tie.Need-returns
 returns c =
@@ -37,8 +37,8 @@ returns-4 c =
     let d = c .before .before .before .before .before .before in
     rw (c .before .before .before .before .e3 .given .1) (c .on-write .ensures (d .before .before .places .ensures) (d .places2 .ensures))
 
-pub step-spec : {M : Type 1} → statement M
-step-spec =
+pub on-event-spec : {M : Type 1} → statement M
+on-event-spec =
     tie.close
     (tie.spec
     (search needs)

@@ -1,0 +1,132 @@
+-- A refused sheet writes nothing; else the settings' records are written at the front, and the events' behind them.
+use Prim.Native.Nat.{ℕ, _+_, _*_, _≤_}
+use mathlib.Core.Path.{_≡_, ap, sym, _∙_}
+use mathlib.Core.List.{List}
+use native.Mathlib.Omega.{arith}
+use lib.ListN.{length, length-drop}
+use borrow.Author.Needs.{needs}
+use Rattle.rules.specs.Sheet.{settingsCount, eventsAt, eventsCount, sheetEnd, recordCount, check, outputAfter}
+use Rattle.rules.proofs.Sheets.{outputs}
+use Rattle.sheet.specs.Parts.{over}
+use Rattle.sheet.proofs.Numbers.{Runs, runs}
+use Rattle.sheet.proofs.Parts.{part-all}
+use Rattle.sheet.proofs.Ran.{refused, all-written}
+use Rattle.sheet.proofs.run_into.Statement.{statement}
+use denote.Ref.{now}
+use Rattle.sheet.proofs.run_into.Tie as tie
+
+-- a sheet whose number is 0 will run
+zero : (c : tie.Else1) → check (now (c .before .before .before .before .args .sheet)) (length (now (c .before .before .before .before .args .out))) ≡ 0
+zero c = sym (c .before .check .ensures) ∙ c .if1 .left
+
+-- what the counts of a sheet that will run say of its length, and of the output's
+record Sizes (settings events len room : ℕ) : Type 0 where
+  whole : len ≡ 2 + 2 * settings + 2 + 8 * events
+  fits : 4 * settings + 4 * events ≡ 4 * (settings + events)
+  room-for : 4 * (settings + events) ≤ room
+
+sizes : (c : tie.After-counts-of)
+    → let a = c .before .before .before .before .before .args in
+    Sizes (c .counts-of .result .settings) (c .counts-of .result .events) (length (now (a .sheet))) (length (now (a .out)))
+unfolding sheetEnd eventsAt settingsCount eventsCount recordCount
+sizes c =
+    let r = runs _ _ (zero (c .before)) in
+    let n = c .counts-of .ensures in
+    record { whole = omega (arith, r .whole, n .0, n .1); fits = omega arith; room-for = omega (arith, r .fits, n .0, n .1) }
+
+returns : tie.Need-returns
+unfolding outputAfter
+returns c =
+    let a = c .before .before .before .before .args in
+    let e = refused (now (a .sheet)) (length (now (a .out))) (λ z. c .if1 .taken (c .before .check .ensures ∙ z)) in
+    (sym (ap length e), sym (ap (λ (l : List ℕ). over l (now (a .out))) e))
+
+counts-of-requires : tie.Need-counts-of-requires
+unfolding sheetEnd
+counts-of-requires c κs = omega (arith, runs _ _ (zero c) .whole)
+
+sub-run-settings : tie.Need-sub-run-settings
+sub-run-settings c = omega (arith, sizes (c .before .before .before) .whole)
+
+part-run-settings-start : tie.Need-part-run-settings-start
+part-run-settings-start c = omega (arith, sizes (c .before .before .before) .whole)
+
+run-settings-requires : tie.Need-run-settings-requires
+run-settings-requires c κs =
+    let counted = c .before .before .before .before .before .before .before in
+    let z = sizes counted in
+    (rw part-all (omega (arith, z .whole, length-drop 2 (now (counted .before .before .before .before .before .args .sheet)))), omega (arith, z .room-for))
+
+sub-run-events : tie.Need-sub-run-events
+sub-run-events c = omega (arith, sizes (c .before .before .before .before .before .before .before .before .before .before) .whole)
+
+part-run-events-start : tie.Need-part-run-events-start
+part-run-events-start c = omega (arith, sizes (c .before .before .before .before .before .before .before .before .before .before) .whole)
+
+sub-run-events-2 : tie.Need-sub-run-events-2
+sub-run-events-2 c = omega (arith, sizes (c .before .before .before .before .before .before .before .before .before .before .before .before .before) .room-for, c .before .before .before .before .before .run-settings .kept .1 .1 .1 .1 .1 .0)
+
+part-run-events-start-2 : tie.Need-part-run-events-start-2
+part-run-events-start-2 c = omega (arith, sizes (c .before .before .before .before .before .before .before .before .before .before .before .before .before) .room-for, c .before .before .before .before .before .run-settings .kept .1 .1 .1 .1 .1 .0)
+
+run-events-requires : tie.Need-run-events-requires
+run-events-requires c κs =
+    let counted = c .before .before .before .before .before .before .before .before .before .before .before .before .before .before in
+    let n = counted .counts-of .result .settings in
+    let z = sizes counted in
+    let settled = c .before .before .before .before .before .before .run-settings in (
+      rw part-all (omega (arith, z .whole, length-drop (2 + 2 * n + 2) (now (counted .before .before .before .before .before .args .sheet)))),
+      rw part-all (omega (arith, z .room-for, length-drop (4 * n) (settled .last .1 .1 .1 .1 .1 .0), settled .kept .1 .1 .1 .1 .1 .0)),
+    )
+
+add-result : tie.Need-add-result
+add-result c =
+    let n = c .before .before .before .before .before .before .before .before .before .before .before .before .before .before .before .before .before .counts-of .ensures in
+    omega (arith, n .2, n .3)
+
+mul-result : tie.Need-mul-result
+mul-result c =
+    let n = c .before .before .before .before .before .before .before .before .before .before .before .before .before .before .before .before .before .counts-of .ensures in
+    omega (arith, n .2, n .3)
+
+returns-2 : tie.Need-returns-2
+unfolding recordCount
+returns-2 c =
+    let ran = c .before .before .run-events in
+    let settled = c .before .before .before .before .before .before .before .before .before .run-settings in
+    let counted = c .before .before .before .before .before .before .before .before .before .before .before .before .before .before .before .before .before in
+    let n = counted .counts-of .ensures in
+    let a = counted .before .before .before .before .before .args in
+    let z = zero (counted .before) in (
+      omega (arith, outputs (now (a .sheet)) (now (a .out)) z .written, n .0, n .1),
+      all-written (now (a .sheet)) (now (a .out)) (settled .last .1 .1 .1 .1 .1 .0) (ran .last .1 .1 .1 .1 .1 .0) _ _ _ _ z (n .0) (n .1)
+          (c .before .before .before .before .before .before .before .before .before .before .before .before .before .before .before .before .fresh .ensures) (settled .ensures .0) (settled .ensures .1) (ran .ensures),
+    )
+
+pub run-into-spec : {M : Type 1} → statement M
+run-into-spec =
+    tie.close
+    (tie.spec
+    (search needs)
+    returns
+    counts-of-requires
+    (search needs)
+    sub-run-settings
+    part-run-settings-start
+    (search needs)
+    run-settings-requires
+    (search needs)
+    (search needs)
+    (search needs)
+    (search needs)
+    sub-run-events
+    part-run-events-start
+    (search needs)
+    sub-run-events-2
+    part-run-events-start-2
+    (search needs)
+    run-events-requires
+    add-result
+    mul-result
+    (search needs)
+    returns-2)

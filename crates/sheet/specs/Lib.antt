@@ -1,0 +1,2 @@
+-- What the contracts of the run sheet cite beside the rules.
+pub mod Parts
