@@ -1,4 +1,4 @@
-/* The reference controller of the eight-input timing unit, for a host in C (link libhost.a).
+/* The reference controller of the eight-input timing unit, for a host in C (link libhost.a; for run sheets, libsheet.a).
  *
  * The host owns a unit's state. It makes one with unit_fresh, lends it to unit_event for each event and to unit_read for each read, and writes it by
  * nothing else. A tick is 128 ms. Document 01 says what each event does and what each register shows.
@@ -114,6 +114,13 @@ uint8_t unit_event(struct unit *u, uint8_t kind, uint8_t a, uint8_t b, int32_t w
 
 /* A read of the lent unit: 256 times the refusal, plus the byte. */
 uint16_t unit_read(const struct unit *u, uint8_t address);
+
+/* Checks a run sheet of len bytes against an output of output_len bytes: its refusal number, 9 to 13, or 0 if it will run. */
+uint8_t sheet_check(const uint8_t *sheet, size_t len, size_t output_len);
+
+/* Runs a sheet on a fresh unit and writes its records at the front of the output, 4 bytes each: how many bytes that is, 0 if the sheet is refused. The bytes
+ * after them are unchanged. Sheet and output do not overlap. */
+size_t sheet_run(const uint8_t *sheet, size_t len, uint8_t *output, size_t output_len);
 
 #ifdef __cplusplus
 }

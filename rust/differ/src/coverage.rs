@@ -1,6 +1,7 @@
 //! What the lists have reached: a table of items, each with the condition that
 //! counts an event for it.
 
+use crate::report::never_reached;
 use model::{
     wait_limit, Event, State, Unit, BLOCKS_KEPT, LOCK_ALARM_TICKS, SAMPLES_PER_BLOCK,
     TICKS_PER_HOUR,
@@ -152,11 +153,7 @@ impl Coverage {
 
     /// The names of the items that were never reached.
     pub fn missing(&self) -> Vec<&str> {
-        let counts = self.counts().into_iter();
-        counts
-            .filter(|count| count.1 == 0)
-            .map(|count| count.0)
-            .collect()
+        never_reached(self.counts())
     }
 }
 

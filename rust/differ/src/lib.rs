@@ -12,6 +12,7 @@ pub mod list;
 pub mod pair;
 pub mod phases;
 pub mod random;
+pub mod report;
 pub mod run;
 pub mod scenarios;
 pub mod shrink;

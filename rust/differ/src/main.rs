@@ -4,6 +4,7 @@
 use differ::coverage::Coverage;
 use differ::device::Device;
 use differ::difference::Name;
+use differ::report::{grouped, print_counts};
 use differ::run::{names, run_list, run_lists, LONG_LISTS};
 use differ::shrink::Shrink;
 use std::process::ExitCode;
@@ -130,14 +131,8 @@ fn compare_lists<D: Device>(make: &D, options: &Options) -> bool {
         return false;
     }
     println!("how many events there were of each kind:");
-    for (name, count) in coverage.counts() {
-        println!("{:>14}  {}", grouped(count), name);
-    }
-    let missing = coverage.missing();
-    for name in &missing {
-        println!("NEVER REACHED: {}", name);
-    }
-    let reached = if missing.is_empty() {
+    let all_reached = print_counts(coverage.counts());
+    let reached = if all_reached {
         "every state reached"
     } else {
         "NOT every state reached"
@@ -148,7 +143,7 @@ fn compare_lists<D: Device>(make: &D, options: &Options) -> bool {
         seed,
         reached
     );
-    missing.is_empty()
+    all_reached
 }
 
 fn totals(coverage: &Coverage) -> String {
@@ -158,17 +153,4 @@ fn totals(coverage: &Coverage) -> String {
         grouped(coverage.events),
         grouped(coverage.reads())
     )
-}
-
-/// The number with a comma before each group of three digits.
-fn grouped(number: u64) -> String {
-    let digits = number.to_string();
-    let mut grouped = String::new();
-    for (index, digit) in digits.chars().enumerate() {
-        if index > 0 && (digits.len() - index) % 3 == 0 {
-            grouped.push(',');
-        }
-        grouped.push(digit);
-    }
-    grouped
 }

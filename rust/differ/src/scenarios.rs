@@ -97,7 +97,7 @@ pub fn long_list<D: Device>(list: &mut List<D>) -> Step {
 }
 
 /// Phases until this many events are sent.
-fn mix_phases<D: Device>(list: &mut List<D>, length: u64) -> Step {
+pub fn mix_phases<D: Device>(list: &mut List<D>, length: u64) -> Step {
     while list.sent() < length {
         let phase = list.random.weighted(&phases());
         phase(list)?;

@@ -16,6 +16,7 @@ impl Event {
     /// "Kind 0 tick (a mask, b lock 0 or 1, word sample); 1 measurement (a
     /// input, b offset); 2 Hit; 3 write (a address, b value). Unused fields
     /// are 0." Anything else is no event.
+    #[inline]
     pub fn from_fields(kind: u8, a: u8, b: u8, word: i32) -> Option<Event> {
         match kind {
             0 if b <= 1 => Some(Event::Tick {

@@ -5,12 +5,14 @@
 #![forbid(unsafe_code)]
 
 mod event;
+pub mod fast;
 mod history;
 mod monitors;
 mod pll;
 mod refusal;
 mod registers;
 mod selection;
+mod sheet;
 mod unit;
 
 pub use event::Event;
@@ -20,4 +22,8 @@ pub use pll::{Pll, State, LOCK_TICKS, UNLOCK_TICKS};
 pub use refusal::Refusal;
 pub use registers::{Register, Settings};
 pub use selection::{wait_limit, Wait, FREE_RUN, NONE};
+pub use sheet::{
+    check, printed, records, run, sheet_of, Record, BYTES_PER_EVENT, BYTES_PER_RECORD,
+    BYTES_PER_SETTING, LONGEST_SHEET, MOST_SETTINGS,
+};
 pub use unit::{Unit, SAMPLE_LIMIT, TICKS_PER_HOUR};

@@ -16,6 +16,17 @@ pub enum State {
     PreLocked2 = 5,
 }
 
+impl State {
+    /// "Holdover if Ready, otherwise Free Run"
+    pub(crate) fn without_reference(ready: bool) -> State {
+        if ready {
+            State::Holdover
+        } else {
+            State::FreeRun
+        }
+    }
+}
+
 #[derive(Clone, Copy, Debug, PartialEq, Eq)]
 pub struct Pll {
     pub state: State,

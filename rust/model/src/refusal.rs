@@ -1,4 +1,5 @@
-//! The refusals of an event or a read, with the numbers of "Turned down".
+//! The refusals of an event, a read or a sheet, with the numbers of "Turned
+//! down".
 
 #[derive(Clone, Copy, Debug, PartialEq, Eq)]
 pub enum Refusal {
@@ -18,8 +19,16 @@ pub enum Refusal {
     SampleOutOfRange = 7,
     /// "command 1 unless Ready, command 2 without backup"
     CommandNotPossible = 8,
+    /// "sheet over 65,535 bytes, or a settings count over 256"
+    TooLarge = 9,
+    /// "sheet ends early"
+    EndsEarly = 10,
+    /// "bytes after the events"
+    BytesAfterEvents = 11,
     /// "kind over 3, lock over 1, or unused field not 0"
     NoEvent = 12,
+    /// "output under 4 bytes a record"
+    OutputTooShort = 13,
 }
 
 impl Refusal {

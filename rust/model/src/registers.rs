@@ -1,6 +1,11 @@
 //! The register map: which address holds what, and the settings that the
 //! writable registers keep.
 
+use crate::refusal::Refusal;
+
+/// "reject − qualification would be under 6" is refused.
+const LEAST_GAP: u8 = 6;
+
 /// What an address of the map holds.
 #[derive(Clone, Copy, Debug, PartialEq, Eq)]
 pub enum Register {
@@ -105,6 +110,22 @@ impl Settings {
             reject: 31,
             qualification: 25,
         }
+    }
+
+    /// The register that a write is for, and the settings after it; or the
+    /// first of 1 to 4 that holds.
+    pub(crate) fn written(self, address: u8, value: u8) -> Result<(Register, Settings), Refusal> {
+        let register = Register::at(address).ok_or(Refusal::NotInTheMap)?;
+        let largest = register.largest().ok_or(Refusal::ReadOnly)?;
+        if value > largest {
+            return Err(Refusal::AboveLargest);
+        }
+        let settings = self.with(register, value);
+        // Only a write of one of the two limits can bring them too close.
+        if settings.reject < settings.qualification + LEAST_GAP {
+            return Err(Refusal::LimitsTooClose);
+        }
+        Ok((register, settings))
     }
 
     /// The settings with one writable register replaced; the others have none

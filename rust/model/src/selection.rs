@@ -2,6 +2,7 @@
 //! step 4. "Selected is 0 (none), 1 to 8, or 9 (Free Run as a candidate)."
 
 use crate::pll::State;
+use crate::registers::Settings;
 use crate::unit::Unit;
 
 /// Selected when nothing is.
@@ -21,6 +22,26 @@ impl Wait {
         ticks: 0,
         best: NONE,
     };
+
+    /// The choice while the selected one is a candidate. "If it is best, it
+    /// stays and the wait is 0. If it is not best and non-revertive, it stays
+    /// and the wait is 0. If revertive, the wait rises [...]; the switch comes
+    /// when wait − 1 is n or more".
+    ///
+    /// Revertive is bit 3 of the selected one, not of the best.
+    pub(crate) fn choose(&mut self, selected: u8, best: u8, settings: &Settings) -> u8 {
+        if selected == best || !settings.revertive(selected) {
+            *self = Wait::ZERO;
+            return selected;
+        }
+        self.count_for(best);
+        // Wait − 1 is n or more when the wait is above n.
+        if self.ticks > wait_limit(settings.delay) {
+            best
+        } else {
+            selected
+        }
+    }
 
     /// "the wait rises by 1, or is 1 if it was 0 or counted for another best"
     fn count_for(&mut self, best: u8) {
@@ -52,27 +73,13 @@ impl Unit {
         self.pll.state = self.state_after_selection(changed);
     }
 
-    /// "If the selected one is no candidate, the best is taken, or 0. If it is
-    /// best, it stays and the wait is 0. If it is not best and non-revertive,
-    /// it stays and the wait is 0. If revertive, the wait rises [...]; the
-    /// switch comes when wait − 1 is n or more".
-    ///
-    /// Revertive is bit 3 of the selected one, not of the best.
+    /// "If the selected one is no candidate, the best is taken, or 0."
     fn automatic_choice(&mut self) -> u8 {
         let best = self.best();
-        if !self.is_candidate(self.selected) {
-            return best;
-        }
-        if self.selected == best || !self.settings.revertive(self.selected) {
-            self.wait = Wait::ZERO;
-            return self.selected;
-        }
-        self.wait.count_for(best);
-        // Wait − 1 is n or more when the wait is above n.
-        if self.wait.ticks > wait_limit(self.settings.delay) {
-            best
+        if self.is_candidate(self.selected) {
+            self.wait.choose(self.selected, best, &self.settings)
         } else {
-            self.selected
+            best
         }
     }
 
@@ -140,12 +147,7 @@ impl Unit {
         }
     }
 
-    /// "Holdover if Ready, otherwise Free Run"
     pub(crate) fn state_without_reference(&self) -> State {
-        if self.history.ready() {
-            State::Holdover
-        } else {
-            State::FreeRun
-        }
+        State::without_reference(self.history.ready())
     }
 }

@@ -13,9 +13,6 @@ pub const SAMPLE_LIMIT: i32 = 125_000_000;
 /// "whole hours (28,125 ticks)"
 pub const TICKS_PER_HOUR: u64 = 28_125;
 
-/// "reject − qualification would be under 6" is refused.
-const LEAST_GAP: u8 = 6;
-
 #[derive(Clone, Debug, PartialEq, Eq)]
 pub struct Unit {
     pub inputs: [Input; 8],
@@ -138,16 +135,7 @@ impl Unit {
 
     /// A write, refused by the first of 1, 2, 3, 4 and 8 that holds.
     fn write(&mut self, address: u8, value: u8) -> Result<(), Refusal> {
-        let register = Register::at(address).ok_or(Refusal::NotInTheMap)?;
-        let largest = register.largest().ok_or(Refusal::ReadOnly)?;
-        if value > largest {
-            return Err(Refusal::AboveLargest);
-        }
-        let settings = self.settings.with(register, value);
-        // Only a write of one of the two limits can bring them too close.
-        if settings.reject < settings.qualification + LEAST_GAP {
-            return Err(Refusal::LimitsTooClose);
-        }
+        let (register, settings) = self.settings.written(address, value)?;
         if register == Register::Command {
             if !self.history.command_possible(value) {
                 return Err(Refusal::CommandNotPossible);

@@ -9,3 +9,4 @@ mod pll;
 mod refusals;
 mod registers;
 mod selection;
+mod sheets;

@@ -1,0 +1,4 @@
+-- Laws that the proofs share.
+pub mod Places
+pub mod Digits
+pub mod Line

@@ -1,0 +1,2 @@
+-- What the contracts of the text cite.
+pub mod Text

@@ -1,0 +1,81 @@
+//! The two sheets that are measured: a settled unit, and a mixed list.
+
+use model::{sheet_of, Event, SAMPLE_LIMIT};
+
+/// How many events each of the sheets has.
+pub const EVENTS: usize = 8_000;
+
+/// Automatic control, all inputs measured well; from then on every event is an
+/// accepted tick with lock, all clocks clean, input 1 soon Locked.
+pub fn settled() -> Vec<u8> {
+    let measured = (1..=8).map(|input| Event::Measurement { input, offset: 0 });
+    let ticks = (0..).map(|index| Event::Tick {
+        mask: 0,
+        lock: true,
+        sample: index % 1_000 - 500,
+    });
+    let events: Vec<_> = measured.chain(ticks).take(EVENTS).collect();
+    sheet_of(&[(0x40, 1)], &events)
+}
+
+/// Ticks with changing irregular masks and lock flags, measurements, writes
+/// and Hits; some of them are refused.
+pub fn mixed() -> Vec<u8> {
+    let mut random = Random(1);
+    let events: Vec<_> = (0..EVENTS).map(|_| any_event(&mut random)).collect();
+    sheet_of(&[(0x40, 1), (0x1c, 0x08), (0x1d, 0x09)], &events)
+}
+
+fn any_event(random: &mut Random) -> Event {
+    let choice = random.below(64);
+    let mask = random.byte() & random.byte() & random.byte();
+    let sample = random.below(2_000) as i32 - 1_000;
+    match choice {
+        0 => Event::Hit,
+        // An input 0 or 9 is refused; most offsets clear the frequency alarm.
+        1..=5 => Event::Measurement {
+            input: random.below(10) as u8,
+            offset: random.byte() as i8 / 4,
+        },
+        // Priorities; 0x1b is not in the map.
+        6 | 7 => Event::Write {
+            address: 0x1b + random.below(10) as u8,
+            value: random.byte() & 0x0f,
+        },
+        // Control, mask and limit; some values are above the largest.
+        8 => Event::Write {
+            address: random.pick(&[0x40, 0x42, 0x44]),
+            value: random.pick(&[1, 31, 127, 255]),
+        },
+        9 => Event::Tick {
+            mask,
+            lock: true,
+            sample: SAMPLE_LIMIT + 1,
+        },
+        _ => Event::Tick {
+            mask,
+            lock: random.below(32) > 0,
+            sample,
+        },
+    }
+}
+
+/// A small random generator, always from the same seed (xorshift).
+struct Random(u32);
+
+impl Random {
+    fn below(&mut self, end: u32) -> u32 {
+        self.0 ^= self.0 << 13;
+        self.0 ^= self.0 >> 17;
+        self.0 ^= self.0 << 5;
+        self.0 % end
+    }
+
+    fn byte(&mut self) -> u8 {
+        self.below(256) as u8
+    }
+
+    fn pick(&mut self, choices: &[u8]) -> u8 {
+        choices[self.below(choices.len() as u32) as usize]
+    }
+}

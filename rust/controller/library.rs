@@ -1,0 +1,30 @@
+//! Where the real controller's static libraries lie: in CONTROLLER_LIB_DIR, or
+//! in the repository's target/staticlib. The build scripts of all bindings use
+//! it.
+
+use std::env;
+use std::path::{Path, PathBuf};
+
+/// Links `lib<name>.a`, which must be there.
+pub fn link(name: &str) {
+    let folder = folder();
+    let library = folder.join(format!("lib{}.a", name));
+    println!("cargo:rerun-if-env-changed=CONTROLLER_LIB_DIR");
+    println!("cargo:rerun-if-changed={}", library.display());
+    if !library.exists() {
+        panic!(
+            "{} is missing: build the controller's static libraries first, or name their folder \
+             in CONTROLLER_LIB_DIR",
+            library.display()
+        );
+    }
+    println!("cargo:rustc-link-search=native={}", folder.display());
+    println!("cargo:rustc-link-lib=static={}", name);
+}
+
+fn folder() -> PathBuf {
+    match env::var_os("CONTROLLER_LIB_DIR") {
+        Some(folder) => PathBuf::from(folder),
+        None => Path::new(env!("CARGO_MANIFEST_DIR")).join("../../target/staticlib"),
+    }
+}

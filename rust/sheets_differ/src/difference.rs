@@ -1,0 +1,141 @@
+//! What is told about a difference: where it was found, both answers, the
+//! sheet, and how to repeat it.
+
+use crate::rack::Feed;
+use model::BYTES_PER_RECORD;
+use std::fmt;
+
+/// How the answer differs from the model's.
+#[derive(Clone, Debug, PartialEq, Eq)]
+pub enum Mismatch {
+    Check {
+        output_len: usize,
+        model: u8,
+        runner: u8,
+    },
+    Written {
+        output_len: usize,
+        model: usize,
+        runner: usize,
+    },
+    /// The place counts from the beginning of the lent output; it is below 0
+    /// or beyond the length if it was not lent.
+    Byte {
+        output_len: usize,
+        place: isize,
+        model: u8,
+        runner: u8,
+    },
+    /// The first line that differs, counted from 1, with the line feed.
+    Line {
+        feed: Feed,
+        line: usize,
+        model: String,
+        rack: String,
+    },
+    NoText {
+        feed: Feed,
+        error: String,
+    },
+}
+
+impl fmt::Display for Mismatch {
+    fn fmt(&self, f: &mut fmt::Formatter) -> fmt::Result {
+        match self {
+            Mismatch::Check {
+                output_len,
+                model,
+                runner,
+            } => write!(
+                f,
+                "check against an output of {} bytes: the model {}, the controller {}",
+                output_len, model, runner
+            ),
+            Mismatch::Written {
+                output_len,
+                model,
+                runner,
+            } => write!(
+                f,
+                "bytes written to an output of {} bytes: the model {}, the controller {}",
+                output_len, model, runner
+            ),
+            Mismatch::Byte {
+                output_len,
+                place,
+                model,
+                runner,
+            } => {
+                let record = place.div_euclid(BYTES_PER_RECORD as isize);
+                let byte = place.rem_euclid(BYTES_PER_RECORD as isize);
+                write!(
+                    f,
+                    "byte {} of an output of {} bytes (record {}, byte {}): the model {:#04x}, \
+                     the controller {:#04x}",
+                    place, output_len, record, byte, model, runner
+                )
+            }
+            Mismatch::Line {
+                feed,
+                line,
+                model,
+                rack,
+            } => write!(
+                f,
+                "line {} of the text, fed {}: the model {:?}, the rack program {:?}",
+                line, feed, model, rack
+            ),
+            Mismatch::NoText { feed, error } => {
+                write!(f, "no text of the rack program, fed {}: {}", feed, error)
+            }
+        }
+    }
+}
+
+/// A sheet's name: its seed, and whether it is one of the damaged ones.
+#[derive(Clone, Copy, Debug, PartialEq, Eq)]
+pub struct Name {
+    pub seed: u64,
+    pub damaged: bool,
+}
+
+impl fmt::Display for Name {
+    fn fmt(&self, f: &mut fmt::Formatter) -> fmt::Result {
+        let damaged = if self.damaged { " --damaged" } else { "" };
+        write!(f, "--sheet {}{}", self.seed, damaged)
+    }
+}
+
+#[derive(Clone, Debug, PartialEq, Eq)]
+pub struct Difference {
+    pub name: Name,
+    /// What was done to the sheet.
+    pub damage: Option<String>,
+    pub sheet: Vec<u8>,
+    pub mismatch: Mismatch,
+}
+
+impl fmt::Display for Difference {
+    fn fmt(&self, f: &mut fmt::Formatter) -> fmt::Result {
+        let damage = self.damage.as_deref().unwrap_or("whole");
+        writeln!(
+            f,
+            "DIFFERENCE in the sheet of seed {} ({})",
+            self.name.seed, damage
+        )?;
+        writeln!(f, "  {}", self.mismatch)?;
+        writeln!(f, "  {} bytes: {}", self.sheet.len(), hex(&self.sheet))?;
+        write!(f, "  repeat it with: sheets_differ {}", self.name)
+    }
+}
+
+/// The first bytes of a sheet in hexadecimal.
+pub fn hex(sheet: &[u8]) -> String {
+    const SHOWN: usize = 64;
+    let bytes = sheet.iter().take(SHOWN);
+    let mut text: Vec<String> = bytes.map(|byte| format!("{:02x}", byte)).collect();
+    if sheet.len() > SHOWN {
+        text.push("...".to_string());
+    }
+    text.join(" ")
+}
