@@ -13,7 +13,6 @@ ghost use Rattle.fields.specs.Bridge.{decodedOf};
 ghost use Rattle.sheet.specs.Parts.{over};
 use fields::Decoded;
 use unit::Core;
-use unit::Event;
 
 // ---- numbers in bytes, low byte first
 
@@ -180,7 +179,7 @@ fn run_settings(
     let mut i = 0;
     while i < n {
         let at = 2 * i;
-        let s = unit::step(Event::Write(part[at], part[at + 1]), k, sums, backup);
+        let s = unit::write(part[at], part[at + 1], k, sums, backup);
         let next = s.core;
         let place = 4 * i;
         put_record(&mut out[place..], s.refusal, next);

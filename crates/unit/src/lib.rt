@@ -374,6 +374,19 @@ pub fn step(e: Event, k: Core, sums: &mut [i64; 64], backup: &mut [i64; 64]) -> 
     s
 }
 
+// The rule `outcome` of a write, with the kept sums and the backup's lent: a step of that event alone.
+pub fn write(a: u8, v: u8, k: Core, sums: &mut [i64; 64], backup: &mut [i64; 64]) -> Stepped
+    ensures { λ r. ⌜ steppedOf r (now (sums .exit)) (now (backup .exit)) ≡ outcome (stateOf k (now (sums .entry)) (now (backup .entry))) (events.write a v) ⌝ }
+    ensures { λ _. ⌜ (length (now (sums .exit)) ≡ 64) × (length (now (backup .exit)) ≡ 64) ⌝ }
+{
+    places(*sums);
+    places(*backup);
+    let s = on_write(a, v, k, sums, backup);
+    places(*sums);
+    places(*backup);
+    s
+}
+
 // ---- the unit
 
 // The whole state: the core, the kept block sums, newest first, and the backup's.

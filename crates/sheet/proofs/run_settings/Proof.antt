@@ -48,7 +48,7 @@ loop-again c =
     let l = at-loop .loop in
     let rest = settingsOf (a .n - (i + 1)) (drop (2 * (i + 1)) (now (a .part))) in
     let more = settings-more (a .n) i (now (a .part)) (in-loop .loop-test .taken) in
-    let told = stepped .step .ensures in (
+    let told = stepped .write .ensures in (
       search needs,
       going-put _ _ (4 * i) (4 * (i + 1)) _ _ _ _ _ _ _ (omega arith) (omega arith) more (told .0) (put .put-record .ensures _ _ (told .1 .0) (told .1 .1)) (l .inv .1),
       ap (λ (o : rules.Outcome). run (o .state) rest) (told .0) ∙ sym (ap (run (stateOf (l .k) (l .sums) (l .backup))) more) ∙ l .inv .2,

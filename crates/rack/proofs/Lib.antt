@@ -1,0 +1,2 @@
+-- The proofs of the rack program.
+pub mod Printed
