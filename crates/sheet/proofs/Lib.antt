@@ -5,3 +5,4 @@ pub mod Records
 pub mod Steps
 pub mod Numbers
 pub mod Ran
+pub mod Service

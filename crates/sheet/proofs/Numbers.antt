@@ -1,13 +1,11 @@
 -- The number of a sheet, case by case, and what a sheet is that will run.
-use Prim.Native.Nat.{ℕ, suc, _+_, _*_, _≤_, _<_}
-use mathlib.Core.Path.{_≡_, refl}
+use Prim.Native.Nat.{ℕ, _+_, _*_, _≤_, _<_}
+use mathlib.Core.Path.{_≡_}
 use mathlib.Core.Bool.{true, false}
 use mathlib.Core.List.{List}
 use native.Mathlib.Omega.{arith}
-use borrow.Author.Tests.{lt-ltb, le-ltb, ltb-false, not-true, not-false}
-use lib.Dec.{ltb}
+use borrow.Author.Tests.{lt-ltb, le-ltb, ltb-false, not-false}
 use lib.ListN.{length, drop, getD, List·getD-eq-default}
-use Rattle.rules.specs.Words.{if_then_else_}
 use Rattle.rules.specs.Sheet.{settingsCount, eventsCount, eventsAt, sheetEnd, allEvents, recordCount, check}
 use Rattle.rules.proofs.Tests.{unrefused, or-true, or-false}
 

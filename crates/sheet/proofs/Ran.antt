@@ -14,7 +14,7 @@ use Rattle.rules.proofs.Sheets.{length-settings, length-records}
 use Rattle.sheet.specs.Parts.{over}
 use Rattle.sheet.proofs.Parts.{came-back, part-all}
 
-records-append : (s : State) (xs ys : List Event) → records s (xs ++ ys) ≡ records s xs ++ records (run s xs) ys
+pub records-append : (s : State) (xs ys : List Event) → records s (xs ++ ys) ≡ records s xs ++ records (run s xs) ys
 unfolding records recordOf run outcome
 records-append s [] ys = refl
 records-append s (e ∷ es) ys = ap (λ (l : List ℕ). recordOf (outcome s e) ++ l) (records-append (outcome s e .state) es ys)

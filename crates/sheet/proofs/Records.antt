@@ -1,7 +1,7 @@
 -- A record's bytes: the refusal, and what the rules read at 0x48, 0x46 and 0x49.
 use Prim.Native.Nat.{ℕ}
 use mathlib.Core.Path.{_≡_, refl}
-use mathlib.Core.List.{List, [], _∷_}
+use mathlib.Core.List.{[], _∷_}
 use Rattle.rules.specs.State.{State}
 use Rattle.rules.specs.Registers.{registers, place, inMap, register, readOnly}
 use Rattle.rules.specs.Reading.{qualifiedMask, stateByte, statusByte, shown, content, read}

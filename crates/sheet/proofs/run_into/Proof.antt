@@ -8,7 +8,7 @@ use borrow.Author.Needs.{needs}
 use Rattle.rules.specs.Sheet.{settingsCount, eventsAt, eventsCount, sheetEnd, recordCount, check, outputAfter}
 use Rattle.rules.proofs.Sheets.{outputs}
 use Rattle.sheet.specs.Parts.{over}
-use Rattle.sheet.proofs.Numbers.{Runs, runs}
+use Rattle.sheet.proofs.Numbers.{runs}
 use Rattle.sheet.proofs.Parts.{part-all}
 use Rattle.sheet.proofs.Ran.{refused, all-written}
 use Rattle.sheet.proofs.run_into.Statement.{statement}

@@ -1,0 +1,82 @@
+-- The promise in the records, proved: the record of an event shows the state that the rules' run has after it.
+use Prim.Native.Nat.{ℕ, _+_, _*_, _%_, _≤_}
+use mathlib.Core.Path.{_≡_, refl, ap, sym, _∙_}
+use mathlib.Core.Bool.{Bool, true, false, _||_}
+use mathlib.Core.List.{List, [], _∷_, _++_, append-assoc}
+use native.Mathlib.Omega.{arith}
+use borrow.Author.Tests.{eq-eqb}
+use lib.ListN.{length, getD}
+use lib.Seq.{getD-append-add}
+use Rattle.rules.specs.Words.{if_then_else_, bit}
+use Rattle.rules.specs.Events.{Event}
+use Rattle.rules.specs.Pll.{holdover, freeRun, locked, is}
+use Rattle.rules.specs.State.{State, selected, mode, Ready}
+use Rattle.rules.specs.History.{held}
+use Rattle.rules.specs.Registers.{fresh}
+use Rattle.rules.specs.Reading.{stateByte, statusByte}
+use Rattle.rules.specs.Refusals.{refusal}
+use Rattle.rules.specs.Run.{next, run, outcome}
+use Rattle.rules.specs.Sheet.{sheetEvents, check, recordOf, records, front}
+use Rattle.rules.proofs.Promise.{run-append, promise}
+use Rattle.rules.proofs.Sheets.{length-records}
+use Rattle.sheet.specs.Service.{byteOf, RecordsPromise}
+use Rattle.sheet.proofs.Records.{record-is}
+use Rattle.sheet.proofs.Ran.{records-append}
+
+-- an element behind a list
+getD-behind : (l m : List ℕ) (n k : ℕ) → length l ≡ n → getD (l ++ m) (n + k) 0 ≡ getD m k 0
+getD-behind l m n k e = rw (← e) (getD-append-add l m k 0)
+
+-- Ready is bit 2 of 0x49
+ready-bit : (a b h : Bool) → bit ((if a then 1 else 0) + (if b then 0 else 2) + 4 + (if h then 8 else 0)) 2 ≡ true
+unfolding bit
+ready-bit true true true = refl
+ready-bit true true false = refl
+ready-bit true false true = refl
+ready-bit true false false = refl
+ready-bit false true true = refl
+ready-bit false true false = refl
+ready-bit false false true = refl
+ready-bit false false false = refl
+
+shows-ready : (s : State) → Ready s ≡ true → bit (statusByte s) 2 ≡ true
+unfolding statusByte
+shows-ready s e = rw e (ready-bit (is holdover (mode s) || is freeRun (mode s)) (is locked (mode s)) (held (s .history .backup)))
+
+shows-selected : (s : State) (r : ℕ) → r ≤ 8 → selected s ≡ r → stateByte s % 16 ≡ r
+unfolding stateByte
+shows-selected s r h e = omega (arith, h, e)
+
+-- the record of the event e, which comes after xs
+bytes-are : (sheet : List ℕ) (room : ℕ) (xs : List Event) (e : Event) (rest : List Event) (k : ℕ)
+    → check sheet room ≡ 0 → sheetEvents sheet ≡ xs ++ (e ∷ rest)
+    → byteOf (front sheet room) (length xs) k ≡ getD (recordOf (outcome (run fresh xs) e) ++ records (outcome (run fresh xs) e .state) rest) k 0
+unfolding front records
+bytes-are sheet room xs e rest k zero events =
+    rw (eq-eqb (check sheet room) 0 zero, events)
+    (ap (λ (l : List ℕ). getD l (4 * length xs + k) 0) (records-append fresh xs (e ∷ rest))
+    ∙ getD-behind (records fresh xs) (records (run fresh xs) (e ∷ rest)) (4 * length xs) k (length-records fresh xs))
+
+-- the state after e, by the whole list
+state-after : (before after later : List Event) (e : Event)
+    → next (run fresh (before ++ (after ++ later))) e ≡ run fresh (before ++ (after ++ (later ++ (e ∷ []))))
+unfolding run
+state-after before after later e =
+    sym (run-append (before ++ (after ++ later)) (e ∷ []) fresh)
+    ∙ ap (run fresh) (append-assoc before (after ++ later) (e ∷ []) ∙ ap (λ (l : List Event). before ++ l) (append-assoc after later (e ∷ [])))
+
+-- THE PROMISE IN THE RECORDS
+pub records-promise : RecordsPromise
+unfolding outcome
+records-promise sheet room before after later e rest r zero events p =
+    let xs = before ++ (after ++ later) in
+    let now = next (run fresh xs) e in
+    let bytes = record-is (refusal (run fresh xs) e) now in
+    let same = state-after before after later e in
+    let served = promise before after (later ++ (e ∷ [])) r p in
+    let state = bytes-are sheet room xs e rest 1 zero events ∙ ap (λ (l : List ℕ). getD (l ++ records now rest) 1 0) bytes in
+    let status = bytes-are sheet room xs e rest 3 zero events ∙ ap (λ (l : List ℕ). getD (l ++ records now rest) 3 0) bytes in
+    record {
+      selected-is = λ ticks. ap (λ (n : ℕ). n % 16) state ∙ shows-selected now r (p .high) (ap selected same ∙ served .selected-is ticks);
+      ready-is = λ ticks. ap (λ (n : ℕ). bit n 2) status ∙ shows-ready now (ap Ready same ∙ served .ready-is ticks);
+    }

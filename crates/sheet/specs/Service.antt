@@ -1,0 +1,40 @@
+-- Document 01, "Demand 3", in the records of a run sheet: a corollary of the promise of service.
+use Prim.Native.Nat.{ℕ, _+_, _*_, _%_, _≤_}
+use mathlib.Core.Path.{_≡_}
+use mathlib.Core.Bool.{Bool, true}
+use mathlib.Core.List.{List, [], _∷_, _++_}
+use lib.ListN.{length, getD}
+use Rattle.rules.specs.Words.{bit}
+use Rattle.rules.specs.Events.{Event}
+use Rattle.rules.specs.State.{State}
+use Rattle.rules.specs.Registers.{fresh}
+use Rattle.rules.specs.Run.{run}
+use Rattle.rules.specs.Sheet.{sheetEvents, check, front}
+use Rattle.rules.specs.Service.{Provisos, selectedTicks, readyTicks, acceptedTicks}
+
+-- "Each gives a 4-byte record: refusal or 0, then 0x48, 0x46, 0x49." Byte k of record i.
+abbrev pub byteOf : List ℕ → ℕ → ℕ → ℕ
+byteOf records i k = getD records (4 * i + k) 0
+
+-- 0x48's selected, and 0x49's Ready bit
+abbrev pub shownSelected : List ℕ → ℕ → ℕ
+shownSelected records i = byteOf records i 1 % 16
+
+abbrev pub shownReady : List ℕ → ℕ → Bool
+shownReady records i = bit (byteOf records i 3) 2
+
+-- what is promised of record i, where s is the rules' state at the moment and `after`, or more events, have come since
+pub record RecordServed (r : ℕ) (s : State) (after : List Event) (records : List ℕ) (i : ℕ) : Type 0 where
+  pub selected-is : selectedTicks r s ≤ acceptedTicks s after → shownSelected records i ≡ r
+  pub ready-is : readyTicks r s ≤ acceptedTicks s after → shownReady records i ≡ true
+
+-- THE PROMISE IN THE RECORDS. Take every sheet that runs; its settings and events are `before`, `after`, `later`, an event e and the rest, with the moment
+-- after `before`. For every reference r for which the provisos hold up to e: if 860 + n accepted ticks stand in `after`, the record of e shows r as selected;
+-- if 6,379 + n do, it shows Ready too.
+abbrev pub RecordsPromise : Type 0
+RecordsPromise =
+    (sheet : List ℕ) (room : ℕ) (before after later : List Event) (e : Event) (rest : List Event) (r : ℕ)
+    → check sheet room ≡ 0
+    → sheetEvents sheet ≡ (before ++ (after ++ later)) ++ (e ∷ rest)
+    → Provisos r (run fresh before) (after ++ (later ++ (e ∷ [])))
+    → RecordServed r (run fresh before) after (front sheet room) (length (before ++ (after ++ later)))
