@@ -11,6 +11,10 @@ use Rattle.rules.specs.Settings.{Settings, priority, ahead}
 use Rattle.rules.specs.Selection.{Inputs, candidate, bestUpTo, best}
 use Rattle.selection.specs.Keys.{noKey, keyOf, leastKey}
 
+-- two keys are taken in one after the other
+pub in-turn : (a b rest : ℕ) → min (min a b) rest ≡ min b (min a rest)
+in-turn a b rest = omega arith
+
 module _ (set : Settings) (inputs : Inputs) where
   -- b is the best so far, and this is its key
   abbrev Packed : ℕ → ℕ → ℕ → Type 0
@@ -47,10 +51,13 @@ module _ (set : Settings) (inputs : Inputs) where
   packed zero h = inl (refl, refl)
   packed (suc k) h = next k (bestUpTo set inputs k) (leastKey set inputs k) (candidate set inputs (suc k)) (omega arith) (packed k (omega arith))
 
-  -- one candidate more
-  pub more : (k : ℕ) {r a b : ℕ} → r ≡ min a b → a ≡ keyOf set inputs (suc k) → b ≡ leastKey set inputs k → r ≡ leastKey set inputs (suc k)
+  -- four candidates more
+  pub four-more : (k : ℕ) {r a b c d rest : ℕ} → r ≡ min d (min c (min b (min a rest)))
+      → a ≡ keyOf set inputs (suc k) → b ≡ keyOf set inputs (suc (suc k))
+      → c ≡ keyOf set inputs (suc (suc (suc k))) → d ≡ keyOf set inputs (suc (suc (suc (suc k))))
+      → rest ≡ leastKey set inputs k → r ≡ leastKey set inputs (suc (suc (suc (suc k))))
   unfolding leastKey
-  more k e p q = e ∙ (λ i. min (p i) (q i))
+  four-more k e p q u v w = e ∙ (λ i. min (v i) (min (u i) (min (q i) (min (p i) (w i)))))
 
   pub best-key : leastKey set inputs 9 % 16 ≡ best set inputs
   unfolding best

@@ -114,20 +114,27 @@ fn reverted(n: u32, b: u8, c: Choice) -> Choice
 
 // ---- the best candidate
 
-// The lesser of a key and that of an input, by its usable bit, its soak, its register and its number.
-fn with_input(rest: u16, usable: bool, soak: u16, register: u8, number: u8) -> u16
-    ensures { λ r. ⌜ r ≡ min (if usable && eqb soak 79 then register % 8 * 16 + number else noKey) rest ⌝ }
+// The key of an input, by its usable bit, its soak, its register and its number.
+fn input_key(usable: bool, soak: u16, register: u8, number: u8) -> u16
+    ensures { λ r. ⌜ r ≡ (if usable && eqb soak 79 then register % 8 * 16 + number else noKey) ⌝ }
 {
     let key = wide16(register % 8) * 16 + wide16(number);
-    least(either(both(usable, soak == FULL_SOAK), key, NO_KEY), rest)
+    either(both(usable, soak == FULL_SOAK), key, NO_KEY)
 }
 
-// The lesser of a key and that of Free Run, by its register.
-fn with_free_run(rest: u16, register: u8) -> u16
-    ensures { λ r. ⌜ r ≡ min (if bit register 4 then register % 8 * 16 + 9 else noKey) rest ⌝ }
+// The key of Free Run, by its register.
+fn free_run_key(register: u8) -> u16
+    ensures { λ r. ⌜ r ≡ (if bit register 4 then register % 8 * 16 + 9 else noKey) ⌝ }
 {
     let key = wide16(register % 8) * 16 + 9;
-    least(either(register / 16 % 2 == 1, key, NO_KEY), rest)
+    either(register / 16 % 2 == 1, key, NO_KEY)
+}
+
+// The least of four keys and the rest's. They are compared in pairs, so that none waits for all before it.
+fn least_of_four(a: u16, b: u16, c: u16, d: u16, rest: u16) -> u16
+    ensures { λ r. ⌜ r ≡ min d (min c (min b (min a rest))) ⌝ }
+{
+    least(least(least(a, b), least(c, d)), rest)
 }
 
 // The number in a key.
@@ -143,15 +150,21 @@ pub fn best_of(m: Monitors, regs: [u8; 27]) -> u8
 {
     let s = m.soak;
     let u = regs[14];
-    let one = with_input(NO_KEY, u / 1 % 2 == 1, s[0], regs[0], 1);
-    let two = with_input(one, u / 2 % 2 == 1, s[1], regs[1], 2);
-    let three = with_input(two, u / 4 % 2 == 1, s[2], regs[2], 3);
-    let four = with_input(three, u / 8 % 2 == 1, s[3], regs[3], 4);
-    let five = with_input(four, u / 16 % 2 == 1, s[4], regs[4], 5);
-    let six = with_input(five, u / 32 % 2 == 1, s[5], regs[5], 6);
-    let seven = with_input(six, u / 64 % 2 == 1, s[6], regs[6], 7);
-    let eight = with_input(seven, u / 128 % 2 == 1, s[7], regs[7], 8);
-    number_in(with_free_run(eight, regs[8]))
+    let front = least_of_four(
+        input_key(u / 1 % 2 == 1, s[0], regs[0], 1),
+        input_key(u / 2 % 2 == 1, s[1], regs[1], 2),
+        input_key(u / 4 % 2 == 1, s[2], regs[2], 3),
+        input_key(u / 8 % 2 == 1, s[3], regs[3], 4),
+        NO_KEY,
+    );
+    let inputs = least_of_four(
+        input_key(u / 16 % 2 == 1, s[4], regs[4], 5),
+        input_key(u / 32 % 2 == 1, s[5], regs[5], 6),
+        input_key(u / 64 % 2 == 1, s[6], regs[6], 7),
+        input_key(u / 128 % 2 == 1, s[7], regs[7], 8),
+        front,
+    );
+    number_in(least(free_run_key(regs[8]), inputs))
 }
 
 // ---- candidates

@@ -349,7 +349,7 @@ fn places(sums: [i64; 64]) -> usize
     sums.len()
 }
 
-// The rule `outcome`, event by event.
+// The rule `outcome`, event by event. A write takes a copy of the core and its answer is copied: lent to that call, the core would lie in memory at each tick.
 fn on_event(e: Event, k: Core, sums: &mut [i64; 64], backup: &mut [i64; 64]) -> Stepped
     ensures { λ r. ⌜ steppedOf r (now (sums .exit)) (now (backup .exit)) ≡ outcome (stateOf k (now (sums .entry)) (now (backup .entry))) (eventOf e) ⌝ }
 {
@@ -359,7 +359,15 @@ fn on_event(e: Event, k: Core, sums: &mut [i64; 64], backup: &mut [i64; 64]) -> 
         Event::Tick(mask, lock, x) => on_tick(mask, lock, x, k, sums),
         Event::Measurement(i, offset) => on_measurement(i, offset, k),
         Event::Hit => on_hit(k),
-        Event::Write(a, v) => on_write(a, v, k, sums, backup),
+        Event::Write(a, v) => {
+            let copy = k;
+            let s = on_write(a, v, copy, sums, backup);
+            let next = s.core;
+            Stepped {
+                refusal: s.refusal,
+                core: next,
+            }
+        }
     }
 }
 

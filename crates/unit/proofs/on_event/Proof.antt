@@ -34,8 +34,9 @@ returns-3 c =
 
 returns-4 : tie.Need-returns-4
 returns-4 c =
-    let d = c .before .before .before .before .before .before in
-    rw (c .before .before .before .before .e3 .given .1) (c .on-write .ensures (d .before .before .places .ensures) (d .places2 .ensures))
+    let w = c .before in
+    let d = w .before .before .before .before .before .before in
+    rw (w .before .before .before .before .e3 .given .1) (w .on-write .ensures (d .before .before .places .ensures) (d .places2 .ensures))
 
 pub on-event-spec : {M : Type 1} → statement M
 on-event-spec =
