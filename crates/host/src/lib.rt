@@ -40,7 +40,7 @@ fn wide16(x: u8) -> u16
 pub fn read(u: Unit, address: u8) -> u16
     ensures { λ r. ⌜ Shows u address r ⌝ }
 {
-    let n = unit::read(u, address);
+    let n = readout::read(u, address);
     256 * wide16(n.refusal) + wide16(n.byte)
 }
 

@@ -153,8 +153,8 @@ fn put_record(out: &mut [u8], refusal: u8, k: Core)
     requires { ⌜ 4 ≤ length (now out) ⌝ }
     ensures { λ _. ⌜ ((sums backup : List ℤ) → length sums ≡ 64 → length backup ≡ 64 → now (out .exit) ≡ over (recordOf (record { refusal = refusal; state = stateOf k sums backup })) (now (out .entry))) ⌝ }
 {
-    let status = unit::status_byte(k);
-    let state = unit::state_byte(k);
+    let status = readout::status_byte(k);
+    let state = readout::state_byte(k);
     let qualified = monitor::qualified_mask(k.monitors);
     out[0] = refusal;
     out[1] = state;

@@ -1,16 +1,14 @@
--- From the code's events, outcomes and answers to the rules'.
+-- From the code's events and outcomes to the rules'.
 use mathlib.Core.List.{List}
 use lib.IntN.{ℤ}
 use Rattle.rules.specs.Events as rules
 use Rattle.rules.specs.Events.{tick, measurement, hit, write}
 use Rattle.rules.specs.Sheet.{signedByte}
 use Rattle.rules.specs.Run as run
-use Rattle.rules.specs.Reading as reading
 use Rattle.unit.specs.declared.Event.{Event}
 use Rattle.unit.specs.declared.Event.the-variants.{Tick, Measurement, Hit, Write}
 use Rattle.unit.specs.declared.Stepped.{Stepped}
 use Rattle.unit.specs.declared.Outcome.{Outcome}
-use Rattle.unit.specs.declared.Answer.{Answer}
 use Rattle.unit.specs.Bridge.{stateOf, modelOf}
 
 -- the rules' event that an event of the code is
@@ -27,7 +25,3 @@ steppedOf s sums backup = record { refusal = s .refusal; state = stateOf (s .cor
 -- the rules' outcome that an outcome of the code is
 abbrev pub outcomeOf : Outcome → run.Outcome
 outcomeOf o = record { refusal = o .refusal; state = modelOf (o .unit) }
-
--- the rules' answer that an answer of the code is
-abbrev pub answerOf : Answer → reading.Answer
-answerOf n = record { refusal = n .refusal; byte = n .byte }

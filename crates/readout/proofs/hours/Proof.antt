@@ -1,9 +1,9 @@
 -- Hours are counted in Holdover alone.
 use mathlib.Core.Path.{refl}
 use borrow.Author.Needs.{needs}
-use Rattle.unit.proofs.hours.Statement.{statement}
+use Rattle.readout.proofs.hours.Statement.{statement}
 use Rattle.rules.specs.Reading as reading
-use Rattle.unit.proofs.hours.Tie as tie
+use Rattle.readout.proofs.hours.Tie as tie
 
 returns : tie.Need-returns
 unfolding reading.hours

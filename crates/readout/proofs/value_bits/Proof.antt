@@ -3,10 +3,10 @@ use mathlib.Core.Path.{_≡_, refl, ap, _∙_}
 use borrow.Author.Needs.{needs}
 use Rattle.rules.specs.Reading.{twos}
 use Rattle.history.proofs.Signed.{stored}
-use Rattle.unit.proofs.value_bits.Statement.{statement}
+use Rattle.readout.proofs.value_bits.Statement.{statement}
 use mir.Syntax.{w64}
 use mir.Val.{toZ, ofZ}
-use Rattle.unit.proofs.value_bits.Tie as tie
+use Rattle.readout.proofs.value_bits.Tie as tie
 
 returns : tie.Need-returns
 returns c =

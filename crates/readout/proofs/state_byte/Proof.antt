@@ -4,9 +4,9 @@ use mathlib.Core.Path.{ap}
 use native.Mathlib.Omega.{arith}
 use borrow.Author.Needs.{needs}
 use Rattle.pll.proofs.Modes.{number-mode}
-use Rattle.unit.proofs.state_byte.Statement.{statement}
+use Rattle.readout.proofs.state_byte.Statement.{statement}
 use Rattle.rules.specs.Reading as reading
-use Rattle.unit.proofs.state_byte.Tie as tie
+use Rattle.readout.proofs.state_byte.Tie as tie
 
 mul-result : tie.Need-mul-result
 mul-result c = omega (arith, c .mode-number .ensures, number-mode (c .before .args .k .pll .mode))

@@ -9,10 +9,10 @@ use Rattle.rules.specs.History.{value}
 use Rattle.rules.specs.Reading.{twos}
 use Rattle.rules.specs.State.{State, Ready}
 use Rattle.rules.specs.Words.{if_then_else_}
 use Rattle.unit.specs.Bridge.{modelOf}
-use Rattle.unit.proofs.shown.Statement.{statement}
+use Rattle.readout.proofs.shown.Statement.{statement}
 use Rattle.rules.specs.Reading as reading
-use Rattle.unit.proofs.shown.Tie as tie
+use Rattle.readout.proofs.shown.Tie as tie
 
 -- a byte of the bits shown, which are 0 unless Ready
 part : (ready : Bool) (bits d : ℕ) {n : ℕ} → 0 / d % 256 ≡ 0 → n ≡ (if ready then bits else 0) → n / d % 256 ≡ (if ready then bits / d % 256 else 0)

@@ -5,9 +5,9 @@ use borrow.Author.Tests.{eq-eqb, ne-eqb}
 use Rattle.rules.specs.Registers.{readOnly}
 use Rattle.registers.specs.Bridge.{row}
 use Rattle.registers.specs.declared.Register.{Register}
-use Rattle.unit.proofs.content.Statement.{statement}
+use Rattle.readout.proofs.content.Statement.{statement}
 use Rattle.rules.specs.Reading as reading
-use Rattle.unit.proofs.content.Tie as tie
+use Rattle.readout.proofs.content.Tie as tie
 
 returns : tie.Need-returns
 unfolding reading.content readOnly row

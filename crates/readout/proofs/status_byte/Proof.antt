@@ -6,9 +6,9 @@ use borrow.Author.Needs.{needs}
 use Rattle.rules.specs.Pll.{locked, is}
 use Rattle.rules.specs.Words.{if_then_else_}
 use Rattle.pll.specs.Bridge.{modeOf}
-use Rattle.unit.proofs.status_byte.Statement.{statement}
+use Rattle.readout.proofs.status_byte.Statement.{statement}
 use Rattle.rules.specs.Reading as reading
-use Rattle.unit.proofs.status_byte.Tie as tie
+use Rattle.readout.proofs.status_byte.Tie as tie
 
 if-not : (b : Bool) → _≡_ {A = ℕ} (if not b then 2 else 0) (if b then 0 else 2)
 if-not true = refl

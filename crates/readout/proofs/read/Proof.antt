@@ -1,9 +1,9 @@
 -- In the map, or number 1 and byte 0.
 use mathlib.Core.Path.{refl}
 use borrow.Author.Needs.{needs}
-use Rattle.unit.proofs.read.Statement.{statement}
+use Rattle.readout.proofs.read.Statement.{statement}
 use Rattle.rules.specs.Reading as reading
-use Rattle.unit.proofs.read.Tie as tie
+use Rattle.readout.proofs.read.Tie as tie
 
 returns : tie.Need-returns
 unfolding reading.read

@@ -1,0 +1,1 @@
+-- The proofs of the reads stand with their functions.
