@@ -1,0 +1,87 @@
+//! The program's arguments.
+
+use crate::files::Source;
+use std::ffi::OsString;
+use std::path::PathBuf;
+
+#[derive(Clone, Copy, Debug, PartialEq, Eq)]
+pub enum Command {
+    Make,
+    Show,
+    Run,
+    Picture,
+}
+
+/// What is asked for.
+#[derive(Clone, Debug, PartialEq, Eq)]
+pub enum Request {
+    Help,
+    /// There are no arguments.
+    Nothing,
+    Work(Work),
+}
+
+#[derive(Clone, Debug, PartialEq, Eq)]
+pub struct Work {
+    pub command: Command,
+    pub source: Source,
+    /// None is standard output.
+    pub output: Option<PathBuf>,
+    /// Whether the source is a text and not a sheet.
+    pub text: bool,
+    /// Whether each record has its own line.
+    pub all: bool,
+}
+
+/// What the arguments ask for, or what is wrong with them.
+pub fn request(mut arguments: impl Iterator<Item = OsString>) -> Result<Request, String> {
+    let command = match arguments.next() {
+        Some(command) => command,
+        None => return Ok(Request::Nothing),
+    };
+    let command = match command.to_str() {
+        Some("help" | "--help" | "-h") => return Ok(Request::Help),
+        Some("make") => Command::Make,
+        Some("show") => Command::Show,
+        Some("run") => Command::Run,
+        Some("picture") => Command::Picture,
+        _ => return Err(format!("no such command: {}", command.to_string_lossy())),
+    };
+    let mut source = None;
+    let mut output = None;
+    let (mut text, mut all) = (command == Command::Make, false);
+    while let Some(argument) = arguments.next() {
+        match argument.to_str() {
+            Some("--help" | "-h") => return Ok(Request::Help),
+            Some("--all") if command == Command::Run => all = true,
+            Some("--text") => text = true,
+            Some("-o") => {
+                let path = arguments.next().ok_or("-o without a file's name")?;
+                once(&mut output, PathBuf::from(path), "-o given twice")?;
+            }
+            Some("-") => once(&mut source, Source::Input, TWO_SOURCES)?,
+            Some(option) if option.starts_with('-') => {
+                return Err(format!("no such option here: {}", option));
+            }
+            _ => once(&mut source, Source::File(argument.into()), TWO_SOURCES)?,
+        }
+    }
+    let source = source.unwrap_or(Source::Input);
+    Ok(Request::Work(Work {
+        command,
+        text: text || source.is_text(),
+        source,
+        output,
+        all,
+    }))
+}
+
+const TWO_SOURCES: &str = "more than one file to read";
+
+/// Sets what may be given once.
+fn once<T>(place: &mut Option<T>, value: T, twice: &str) -> Result<(), String> {
+    match place.replace(value) {
+        None => Ok(()),
+        Some(_) => Err(twice.to_string()),
+    }
+}

@@ -1,0 +1,43 @@
+//! One event of a run sheet, as the fields that document 01 gives it.
+
+/// The kinds of events.
+pub const TICK: u8 = 0;
+pub const MEASUREMENT: u8 = 1;
+pub const HIT: u8 = 2;
+pub const WRITE: u8 = 3;
+
+/// The bytes of an event in a sheet.
+pub const EVENT_BYTES: usize = 8;
+
+/// What `a`, `b` and `word` hold is the kind's to say: a tick's mask, lock flag
+/// and sample; a measurement's input and offset; a write's address and value.
+#[derive(Clone, Copy, Debug, PartialEq, Eq)]
+pub struct Event {
+    pub kind: u8,
+    pub a: u8,
+    pub b: u8,
+    pub word: i32,
+}
+
+impl Event {
+    /// An event without a word.
+    pub fn short(kind: u8, a: u8, b: u8) -> Event {
+        let word = 0;
+        Event { kind, a, b, word }
+    }
+
+    pub fn to_bytes(self) -> [u8; EVENT_BYTES] {
+        let [low, second, third, high] = self.word.to_le_bytes();
+        [self.kind, self.a, self.b, 0, low, second, third, high]
+    }
+
+    /// The event at the front of these bytes; the unused fourth is left out.
+    pub fn from_bytes(bytes: &[u8]) -> Event {
+        Event {
+            kind: bytes[0],
+            a: bytes[1],
+            b: bytes[2],
+            word: i32::from_le_bytes([bytes[4], bytes[5], bytes[6], bytes[7]]),
+        }
+    }
+}

@@ -1,0 +1,22 @@
+//! The sheet tool: a run sheet made from a readable text, shown as that text,
+//! run, and drawn. Every answer comes from the controller's exported functions;
+//! none of its rules is written here again.
+
+#![forbid(unsafe_code)]
+
+pub mod arguments;
+pub mod event;
+pub mod files;
+pub mod help;
+pub mod make;
+pub mod picture;
+pub mod program;
+pub mod records;
+pub mod refusals;
+pub mod registers;
+pub mod runs;
+pub mod sheet;
+pub mod show;
+pub mod stepped;
+pub mod table;
+pub mod time;

@@ -1,0 +1,116 @@
+//! One line of the text: a statement, or nothing.
+
+use super::field::{shortened, Field, ADDRESS, COUNT, INPUT, LOCK, MASK, OFFSET, SAMPLE, VALUE};
+use crate::event::{Event, HIT, MEASUREMENT, TICK, WRITE};
+use crate::sheet::Setting;
+
+#[derive(Clone, Debug, PartialEq, Eq)]
+pub enum Statement {
+    Nothing,
+    Settings { count: usize, setting: Setting },
+    Events { count: usize, event: Event },
+    Repeat { count: usize },
+    End,
+}
+
+/// What the line says, or why it says nothing that can be understood. A `#`
+/// starts a comment.
+pub fn statement(line: &str) -> Result<Statement, String> {
+    let said = line.split('#').next().unwrap_or("");
+    let words: Vec<&str> = said.split_whitespace().collect();
+    match words[..] {
+        [] => Ok(Statement::Nothing),
+        ["repeat", ref rest @ ..] => {
+            let [count] = fields("repeat", [COUNT], rest)?;
+            let count = count as usize;
+            Ok(Statement::Repeat { count })
+        }
+        ["end", ref rest @ ..] => fields("end", [], rest).map(|[]| Statement::End),
+        [count, ref rest @ ..] if begins_a_number(count) => {
+            let (word, rest) = after_count(count, rest)?;
+            repeated(COUNT.read(count)? as usize, word, rest)
+        }
+        [word, ref rest @ ..] => repeated(1, word, rest),
+    }
+}
+
+fn begins_a_number(word: &str) -> bool {
+    word.starts_with(|first: char| first == '-' || first.is_ascii_digit())
+}
+
+/// The word that a count stands in front of, and what follows it.
+fn after_count<'a>(count: &str, rest: &'a [&'a str]) -> Result<(&'a str, &'a [&'a str]), String> {
+    match rest {
+        ["x", word @ ("repeat" | "end"), ..] => Err(format!("{} takes no count in front", word)),
+        ["x", word, rest @ ..] => Ok((word, rest)),
+        ["x"] => Err("a statement is missing after the count".to_string()),
+        _ => Err(format!(
+            "after the count {} an x is missing, as in 79 x tick 0x00 0 0",
+            shortened(count)
+        )),
+    }
+}
+
+/// A setting or an event, so many times.
+fn repeated(count: usize, word: &str, rest: &[&str]) -> Result<Statement, String> {
+    let event = match word {
+        "setting" => {
+            let [address, value] = fields(word, [ADDRESS, VALUE], rest)?;
+            let setting = (address as u8, value as u8);
+            return Ok(Statement::Settings { count, setting });
+        }
+        "tick" => {
+            let [mask, lock, sample] = fields(word, [MASK, LOCK, SAMPLE], rest)?;
+            let word = sample as i32;
+            Event {
+                word,
+                ..Event::short(TICK, mask as u8, lock as u8)
+            }
+        }
+        "measurement" => {
+            let [input, offset] = fields(word, [INPUT, OFFSET], rest)?;
+            Event::short(MEASUREMENT, input as u8, offset as u8)
+        }
+        "hit" => {
+            let [] = fields(word, [], rest)?;
+            Event::short(HIT, 0, 0)
+        }
+        "write" => {
+            let [address, value] = fields(word, [ADDRESS, VALUE], rest)?;
+            Event::short(WRITE, address as u8, value as u8)
+        }
+        _ => return Err(unknown(word)),
+    };
+    Ok(Statement::Events { count, event })
+}
+
+fn unknown(word: &str) -> String {
+    format!(
+        "unknown word \"{}\"; a statement is setting, tick, measurement, hit, write, repeat or end",
+        shortened(word)
+    )
+}
+
+/// The numbers of a statement's fields, each within its width; no field may be
+/// missing and nothing may follow.
+fn fields<const N: usize>(
+    statement: &str,
+    fields: [Field; N],
+    words: &[&str],
+) -> Result<[i64; N], String> {
+    let mut numbers = [0; N];
+    for (index, field) in fields.iter().enumerate() {
+        let word = words
+            .get(index)
+            .ok_or_else(|| format!("{} needs {}", statement, field.name))?;
+        numbers[index] = field.read(word)?;
+    }
+    match words.get(N) {
+        None => Ok(numbers),
+        Some(word) => Err(format!(
+            "\"{}\" is one field too many for {}",
+            shortened(word),
+            statement
+        )),
+    }
+}

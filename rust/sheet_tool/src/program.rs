@@ -1,0 +1,51 @@
+//! The program: from its arguments to its exit status.
+
+use crate::arguments::{request, Command, Request, Work};
+use crate::files::write;
+use crate::help::help;
+use crate::picture::picture;
+use crate::records::run;
+use crate::show::show;
+use crate::stepped::moments;
+use crate::table::table;
+use std::ffi::OsString;
+use std::io::Write;
+use std::process::ExitCode;
+
+/// 0 if all went well; 1 and a message for a text, a sheet or a file that is at
+/// fault; 2 and a message for arguments that are.
+pub fn main(arguments: impl Iterator<Item = OsString>) -> ExitCode {
+    let (message, status) = match request(arguments) {
+        Ok(Request::Help) => (write(help().as_bytes(), None).err(), 1),
+        Ok(Request::Nothing) => (Some(help()), 2),
+        Ok(Request::Work(work)) => (do_work(&work).err(), 1),
+        Err(reason) => (Some(format!("sheet: {}; see sheet --help", reason)), 2),
+    };
+    match message {
+        None => ExitCode::SUCCESS,
+        Some(message) => {
+            // Where messages cannot be written, the status still tells.
+            let _ = writeln!(std::io::stderr(), "{}", message);
+            ExitCode::from(status)
+        }
+    }
+}
+
+/// Reads, makes the whole result and only then writes it.
+fn do_work(work: &Work) -> Result<(), String> {
+    let sheet = match work.text {
+        true => work.source.read_text()?,
+        false => work.source.read_sheet()?,
+    };
+    let result = match work.command {
+        Command::Make => sheet.to_bytes(),
+        Command::Show => show(&sheet).into_bytes(),
+        Command::Run => table(&run(&sheet), work.all).into_bytes(),
+        Command::Picture => {
+            let moments = moments(&sheet, &run(&sheet))
+                .map_err(|reason| format!("{}: {}", work.source.name(), reason))?;
+            picture(&work.source.title(), &moments).into_bytes()
+        }
+    };
+    write(&result, work.output.as_deref())
+}

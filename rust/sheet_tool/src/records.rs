@@ -1,0 +1,97 @@
+//! The records of a run, as words can tell them.
+
+use crate::event::TICK;
+use crate::sheet::{Sheet, RECORD_BYTES};
+
+/// A record of document 01: the refusal or 0, then the bytes of 0x48, 0x46 and
+/// 0x49.
+#[derive(Clone, Copy, Debug, PartialEq, Eq)]
+pub struct Record {
+    pub refusal: u8,
+    pub state: u8,
+    pub qualified: u8,
+    pub status: u8,
+}
+
+/// The names of the states by their numbers.
+pub const STATES: [&str; 6] = [
+    "Free Run",
+    "Holdover",
+    "Pre-locked",
+    "Locked",
+    "Loss of lock",
+    "Pre-locked 2",
+];
+
+impl Record {
+    fn from_bytes(bytes: &[u8]) -> Record {
+        Record {
+            refusal: bytes[0],
+            state: bytes[1],
+            qualified: bytes[2],
+            status: bytes[3],
+        }
+    }
+
+    /// The number of the state, by which `STATES` has its name.
+    pub fn state_number(self) -> usize {
+        usize::from(self.state >> 4)
+    }
+
+    pub fn state_name(self) -> &'static str {
+        STATES.get(self.state_number()).unwrap_or(&"?")
+    }
+
+    /// 0 is none, 9 Free Run.
+    pub fn selected(self) -> u8 {
+        self.state & 15
+    }
+
+    pub fn alarm(self) -> bool {
+        self.status & 1 != 0
+    }
+
+    pub fn ready(self) -> bool {
+        self.status & 4 != 0
+    }
+
+    pub fn backup_held(self) -> bool {
+        self.status & 8 != 0
+    }
+}
+
+/// What is selected, in words.
+pub fn selected_name(selected: u8) -> String {
+    match selected {
+        0 => "none".to_string(),
+        9 => "Free Run".to_string(),
+        input => input.to_string(),
+    }
+}
+
+/// A record with the accepted ticks up to it, its own included.
+#[derive(Clone, Copy, Debug, PartialEq, Eq)]
+pub struct Timed {
+    pub ticks: u64,
+    pub record: Record,
+}
+
+/// Runs a sheet that the check lets through.
+pub fn run(sheet: &Sheet) -> Vec<Timed> {
+    let mut output = vec![0; RECORD_BYTES * sheet.steps().count()];
+    let written = sheets::run(&sheet.to_bytes(), &mut output);
+    let records = output[..written].chunks(RECORD_BYTES);
+    let mut ticks = 0;
+    let timed = |(step, bytes)| {
+        let record = Record::from_bytes(bytes);
+        ticks += passed(step, record.refusal);
+        Timed { ticks, record }
+    };
+    let kinds = sheet.steps().map(|step| step.kind);
+    kinds.zip(records).map(timed).collect()
+}
+
+/// How many ticks an event takes: 1 for an accepted tick, else 0.
+fn passed(kind: u8, refusal: u8) -> u64 {
+    u64::from(kind == TICK && refusal == 0)
+}

@@ -1,0 +1,23 @@
+//! What the numbers of refusals mean: document 01, "Turned down".
+
+const REASONS: [&str; 13] = [
+    "address not in the map",
+    "write to a read-only register",
+    "value above the register's largest",
+    "reject - qualification would be under 6",
+    "Hit with no reference 1 to 8 selected",
+    "input not 1 to 8",
+    "sample out of range",
+    "command 1 while not Ready, or command 2 without backup",
+    "sheet over 65,535 bytes, or a settings count over 256",
+    "sheet ends early",
+    "bytes after the events",
+    "kind over 3, lock over 1, or unused field not 0",
+    "output under 4 bytes a record",
+];
+
+/// The reason of a refusal, by its number from 1.
+pub fn reason(number: u8) -> &'static str {
+    let place = usize::from(number).wrapping_sub(1);
+    REASONS.get(place).unwrap_or(&"not a number of document 01")
+}
