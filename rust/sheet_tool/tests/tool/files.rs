@@ -1,0 +1,46 @@
+//! The repository's files that the tests read, and files of their own.
+
+use std::fs;
+
+/// The examples, in the folder `examples`, by their names without endings.
+pub const EXAMPLES: [&str; 8] = [
+    "all-clocks-lost",
+    "document-01",
+    "first-lock",
+    "history-commands",
+    "lock-alarm",
+    "manual-fallback",
+    "non-revertive",
+    "reversion-with-delay",
+];
+
+/// A path in the repository.
+pub fn repository(path: &str) -> String {
+    format!("{}/../../{}", env!("CARGO_MANIFEST_DIR"), path)
+}
+
+pub fn example(name: &str, ending: &str) -> String {
+    repository(&format!("examples/{}.{}", name, ending))
+}
+
+pub fn read(path: &str) -> Vec<u8> {
+    fs::read(path).unwrap_or_else(|error| panic!("{}: {}", path, error))
+}
+
+pub fn read_text(path: &str) -> String {
+    String::from_utf8(read(path)).expect("a text")
+}
+
+/// A path for a test's own file, which is not there yet.
+pub fn absent(name: &str) -> String {
+    let path = format!("{}/{}", env!("CARGO_TARGET_TMPDIR"), name);
+    let _ = fs::remove_file(&path);
+    path
+}
+
+/// A test's own file with this content.
+pub fn present(name: &str, content: &[u8]) -> String {
+    let path = absent(name);
+    fs::write(&path, content).expect("a file in the folder for tests");
+    path
+}

@@ -1,0 +1,13 @@
+//! The sheet tool's tests: its parts as functions, and the program as a process.
+
+mod examples;
+mod faults;
+mod files;
+mod pictures;
+mod process;
+mod program;
+mod random;
+mod refused;
+mod round_trip;
+mod same_records;
+mod xml;

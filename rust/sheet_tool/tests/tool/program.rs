@@ -1,0 +1,178 @@
+//! The program: its arguments, help, exit statuses, input and output.
+
+use crate::files::{absent, example, present, read};
+use crate::process::{command, sheet, sheet_with, Outcome};
+use std::fs;
+use std::io::Read;
+use std::process::Stdio;
+
+const RECORDS_OF_A_HIT: &str = "\
+first   last    from s      to s  state         selected  qualified  alarm  Ready  backup  refusal
+    0      0     0.000     0.000  Free Run      none      ........   alarm  -      -       5 Hit with no reference 1 to 8 selected
+";
+
+#[test]
+fn help_says_it_all() {
+    let help = sheet(&["--help"]).text();
+    for arguments in [
+        &["help"][..],
+        &["-h"],
+        &["run", "--help"],
+        &["make", "x", "-h"],
+    ] {
+        assert_eq!(sheet(arguments).text(), help);
+    }
+    let nothing = sheet(&[]);
+    assert_eq!((nothing.status, nothing.output.len()), (Some(2), 0));
+    assert_eq!(nothing.message.trim_end(), help.trim_end());
+    for word in [
+        "make",
+        "show",
+        "run",
+        "picture",
+        "-o",
+        "--all",
+        "--text",
+        ".txt",
+        "setting",
+        "tick",
+        "measurement",
+        "hit",
+        "write",
+        "repeat",
+        "end",
+        "COUNT x",
+        "exit status",
+    ] {
+        assert!(help.contains(word), "no word on {}", word);
+    }
+    for (address, name) in sheet_tool::registers::all() {
+        assert!(help.contains(&format!("{:#04x} {}", address, name)));
+    }
+    assert!(help.lines().all(|line| line.len() <= 80));
+}
+
+#[test]
+fn bad_arguments_have_status_2() {
+    for (arguments, reason) in [
+        (&["draw"][..], "no such command: draw"),
+        (&[""], "no such command: "),
+        (&["--all"], "no such command: --all"),
+        (&["run", "--every"], "no such option here: --every"),
+        (&["make", "--all"], "no such option here: --all"),
+        (&["show", "-x"], "no such option here: -x"),
+        (&["make", "-o"], "-o without a file's name"),
+        (&["make", "-o", "a", "-o", "b"], "-o given twice"),
+        (&["make", "a", "b"], "more than one file to read"),
+        (&["run", "-", "a"], "more than one file to read"),
+    ] {
+        let message = format!("sheet: {}; see sheet --help", reason);
+        assert_eq!(sheet(arguments), Outcome::failed(2, &message));
+    }
+}
+
+#[test]
+fn files_that_cannot_be_read_or_written() {
+    let missing = absent("program-missing");
+    let reason = "cannot be read: No such file or directory (os error 2)";
+    let failed = Outcome::failed(1, &format!("{}: {}", missing, reason));
+    for command in ["make", "show", "run", "picture"] {
+        assert_eq!(sheet(&[command, &missing]), failed);
+        let of_folder = sheet(&[command, env!("CARGO_TARGET_TMPDIR")]);
+        assert_eq!((of_folder.status, of_folder.output.len()), (Some(1), 0));
+        assert!(of_folder.message.contains("cannot be read"));
+    }
+    let output = format!("{}/output", missing);
+    let reason = "cannot be written: No such file or directory (os error 2)";
+    let failed = Outcome::failed(1, &format!("{}: {}", output, reason));
+    assert_eq!(sheet_with(&["make", "-o", &output], b"hit"), failed);
+}
+
+#[test]
+fn a_text_without_end_is_not_read_to_it() {
+    let message = "/dev/zero: a text over 4,000,000 bytes";
+    assert_eq!(sheet(&["make", "/dev/zero"]), Outcome::failed(1, message));
+    let message = "sheet over 65,535 bytes, or a settings count over 256";
+    let message = format!("/dev/zero: sheet refused with 9: {}", message);
+    assert_eq!(sheet(&["run", "/dev/zero"]), Outcome::failed(1, &message));
+}
+
+#[test]
+fn standard_input_and_output() {
+    let bytes = [0, 0, 1, 0, 2, 0, 0, 0, 0, 0, 0, 0];
+    for arguments in [&["make"][..], &["make", "-"], &["make", "--text", "-"]] {
+        let made = sheet_with(arguments, b"hit\n");
+        assert_eq!((made.status, &made.output[..]), (Some(0), &bytes[..]));
+    }
+    for arguments in [&["run"][..], &["run", "-"], &["run", "-", "--all"]] {
+        assert_eq!(sheet_with(arguments, &bytes).text(), RECORDS_OF_A_HIT);
+    }
+    assert_eq!(
+        sheet_with(&["run", "--text"], b"hit").text(),
+        RECORDS_OF_A_HIT
+    );
+    let svg = sheet_with(&["picture"], &bytes).text();
+    assert!(svg.contains("<title>standard input</title>"));
+}
+
+#[test]
+fn files_by_their_endings_and_by_text() {
+    let text = present("program-hit.txt", b"hit");
+    let other = present("program-hit.text", b"hit");
+    for arguments in [&["run", &text][..], &["run", "--text", &other]] {
+        assert_eq!(sheet(arguments).text(), RECORDS_OF_A_HIT);
+    }
+    assert_eq!(sheet(&["run", &other]).status, Some(1));
+    assert_eq!(sheet(&["make", &other]), sheet(&["make", &text]));
+}
+
+#[test]
+fn results_in_files() {
+    let text = example("first-lock", "txt");
+    let output = present("program-output", b"longer than what comes, or not");
+    for command in ["make", "show", "run", "picture"] {
+        let written = sheet(&[command, &text, "-o", &output]);
+        assert_eq!(written.text(), "");
+        assert_eq!(read(&output), sheet(&[command, &text]).output);
+    }
+}
+
+/// A result may take the place of what it was made from.
+#[test]
+fn a_file_onto_itself() {
+    let file = present("program-itself.txt", b"repeat 2\nhit\nend");
+    assert_eq!(sheet(&["show", &file, "-o", &file]).text(), "");
+    let shown = "# settings (writes on a fresh unit): 0\n\n# events: 2\n2 x hit\n";
+    assert_eq!(read(&file), shown.as_bytes());
+}
+
+#[test]
+fn a_reader_that_stops_is_no_error() {
+    let text = example("history-commands", "txt");
+    let mut child = command(&["run", "--all", &text])
+        .stdout(Stdio::piped())
+        .stderr(Stdio::piped())
+        .spawn()
+        .expect("the program");
+    let mut first = [0; 5];
+    let mut output = child.stdout.take().expect("a pipe");
+    output.read_exact(&mut first).expect("a first word");
+    drop(output);
+    let outcome = child.wait_with_output().expect("the program's end");
+    assert_eq!((&first, outcome.status.code()), (b"first", Some(0)));
+    assert_eq!(outcome.stderr, b"");
+}
+
+#[test]
+fn an_output_that_is_full_is_an_error() {
+    let full = fs::OpenOptions::new().write(true).open("/dev/full");
+    let mut full_output = command(&["help"]);
+    full_output.stdout(full.expect("/dev/full"));
+    let outcome = full_output
+        .stderr(Stdio::piped())
+        .output()
+        .expect("the end");
+    assert_eq!(outcome.status.code(), Some(1));
+    let message = String::from_utf8(outcome.stderr).unwrap();
+    assert!(message.starts_with("standard output: cannot be written: "));
+}
