@@ -10,4 +10,5 @@ mod random;
 mod refused;
 mod round_trip;
 mod same_records;
+mod tables;
 mod xml;
