@@ -8,8 +8,6 @@ use crate::sheet::Sheet;
 use assembly::Assembly;
 use statement::statement;
 
-pub use field::{GROUP_DEPTH, MOST_REPEATS};
-
 /// The first thing wrong in a text.
 #[derive(Clone, Debug, PartialEq, Eq)]
 pub struct Fault {
