@@ -1,1 +1,0 @@
--- The proofs of the reads stand with their functions.
