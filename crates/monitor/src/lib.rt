@@ -35,7 +35,7 @@ const CLEAR_LEVEL: u16 = 4;
 const DECAY_TICKS: u16 = 2;
 
 // The soak of a qualified input.
-const FULL_SOAK: u16 = 79;
+pub const FULL_SOAK: u16 = 79;
 
 // The ticks of a lock alarm.
 const ALARM_TICKS: u16 = 782;

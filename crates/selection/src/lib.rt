@@ -4,7 +4,7 @@ ghost use Prim.Native.Nat.{_+_, _-_, _*_, _%_, _≤_, min};
 ghost use mathlib.Core.Bool.{_&&_, _||_};
 ghost use lib.Dec.{eqb};
 ghost use Rattle.rules.specs.Words.{if_then_else_, bit, bitOf, isInput};
-ghost use Rattle.rules.specs.Monitors as monitors;
+ghost use Rattle.rules.specs.Monitors.{fullSoak};
 ghost use Rattle.rules.specs.Settings as settings;
 ghost use Rattle.rules.specs.Settings.{delayTicks};
 ghost use Rattle.rules.specs.Selection as selection;
@@ -20,6 +20,7 @@ use arith::least;
 use arith::mask_of;
 use arith::wide16;
 use arith::wide32;
+use monitor::FULL_SOAK;
 use monitor::Monitors;
 use monitor::qualified_at;
 use registers::delay_minutes;
@@ -28,9 +29,6 @@ use registers::is_automatic;
 use registers::is_revertive;
 use registers::op_mode;
 use registers::usable_mask;
-
-// The soak of a qualified input.
-const FULL_SOAK: u16 = 79;
 
 // One tick more than the longest delay: the wait stops here.
 const WAIT_LIMIT: u32 = 119_533;
@@ -116,7 +114,7 @@ fn reverted(n: u32, b: u8, c: Choice) -> Choice
 
 // The key of an input, by its usable bit, its soak, its register and its number.
 fn input_key(usable: bool, soak: u16, register: u8, number: u8) -> u16
-    ensures { λ r. ⌜ r ≡ (if usable && eqb soak 79 then register % 8 * 16 + number else noKey) ⌝ }
+    ensures { λ r. ⌜ r ≡ (if usable && eqb soak fullSoak then register % 8 * 16 + number else noKey) ⌝ }
 {
     let key = wide16(register % 8) * 16 + wide16(number);
     either(both(usable, soak == FULL_SOAK), key, NO_KEY)
