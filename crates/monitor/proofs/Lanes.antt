@@ -1,7 +1,7 @@
 -- The stored numbers by place, and the rules' list of inputs.
 use Prim.Native.Nat.{ℕ, zero, suc, _-_, _≤_, _<_}
 use mathlib.Core.Path.{_≡_, refl, ap, sym, _∙_}
-use mathlib.Core.Bool.{_&&_}
+use mathlib.Core.Bool.{Bool, _&&_}
 use mathlib.Core.List.{List}
 use native.Mathlib.Omega.{arith}
 use lib.Dec.{eqb}
@@ -14,7 +14,6 @@ use Rattle.rules.specs.Selection.{Inputs, input, altered}
 use Rattle.rules.proofs.Tests.{by-test, is-between}
 use Rattle.monitor.specs.Bridge.{inputOf, laneAt, eight, inputsOf}
 use Rattle.monitor.specs.declared.Monitors.{Monitors}
-use Rattle.monitor.specs.declared.Lane.{Lane}
 
 -- ---- an input read
 
@@ -54,59 +53,24 @@ eight-set f g k v same other =
         (λ e. rw (eqb-true j k e) (getD-set-same (eight f) k v v (omega (arith, eqb-true j k e)) ∙ sym (same (omega (arith, eqb-true j k e)))))
         (λ e. getD-set-other (eight f) k j v v (eqb-false j k e) ∙ eight-at f v j h ∙ sym (other j (eqb-false j k e)))
 
--- the stored numbers with those at one place replaced
-abbrev pub putAt : Monitors → ℕ → Lane → Monitors
-putAt m k x =
-    record {
-      level = set (m .level) k (x .level);
-      decay = set (m .decay) k (x .decay);
-      active = set (m .active) k (x .active);
-      frequency = set (m .frequency) k (x .frequency);
-      remainder = set (m .remainder) k (x .remainder);
-      soak = set (m .soak) k (x .soak);
-    }
-
--- each list has eight numbers
-pub record Eights (m : Monitors) : Type 0 where
-  pub level : length (m .level) ≡ 8
-  pub decay : length (m .decay) ≡ 8
-  pub active : length (m .active) ≡ 8
-  pub frequency : length (m .frequency) ≡ 8
-  pub remainder : length (m .remainder) ≡ 8
-  pub soak : length (m .soak) ≡ 8
-
-same-at : (l : List ℕ) (k v : ℕ) → length l ≡ 8 → k < 8 → getD (set l k v) k 0 ≡ v
+pub same-at : (l : List ℕ) (k v : ℕ) → length l ≡ 8 → k < 8 → getD (set l k v) k 0 ≡ v
 same-at l k v e h = getD-set-same l k v 0 (omega arith)
 
-pub put-inputs : (m : Monitors) (k : ℕ) (x : Lane) → Eights m → inputsOf (putAt m k x) ≡ set (inputsOf m) k (inputOf x)
-unfolding inputsOf
-put-inputs m k x e =
-    eight-set (λ j. inputOf (laneAt m j)) (λ j. inputOf (laneAt (putAt m k x) j)) k (inputOf x)
-    (λ h. ap inputOf (λ i. record {
-      level = same-at (m .level) k (x .level) (e .level) h i;
-      decay = same-at (m .decay) k (x .decay) (e .decay) h i;
-      active = same-at (m .active) k (x .active) (e .active) h i;
-      frequency = same-at (m .frequency) k (x .frequency) (e .frequency) h i;
-      remainder = same-at (m .remainder) k (x .remainder) (e .remainder) h i;
-      soak = same-at (m .soak) k (x .soak) (e .soak) h i;
-    }))
-    (λ j n. ap inputOf (λ i. record {
-      level = getD-set-other (m .level) k j (x .level) 0 n i;
-      decay = getD-set-other (m .decay) k j (x .decay) 0 n i;
-      active = getD-set-other (m .active) k j (x .active) 0 n i;
-      frequency = getD-set-other (m .frequency) k j (x .frequency) 0 n i;
-      remainder = getD-set-other (m .remainder) k j (x .remainder) 0 n i;
-      soak = getD-set-other (m .soak) k j (x .soak) 0 n i;
-    }))
+-- the stored numbers with other frequency alarms, remainders and soaks
+abbrev pub withAlarms : Monitors → List ℕ → List ℕ → List ℕ → Monitors
+withAlarms m frequency remainder soak =
+    record { level = m .level; decay = m .decay; active = m .active; frequency = frequency; remainder = remainder; soak = soak }
 
--- input i altered, by the numbers at its place
-pub altered-at : (f : Input → Input) (m : Monitors) (i : ℕ) {k : ℕ} {x : Lane} {y : Input} {l : Inputs} → k ≡ i - 1 → k < 8
-    → x ≡ laneAt m k → y ≡ f (inputOf x) → l ≡ set (inputsOf m) k y → l ≡ altered f i (inputsOf m)
-unfolding altered
-altered-at f m i {k} e h p q s =
-    s ∙ ap (set (inputsOf m) k) (q ∙ ap (λ (z : Lane). f (inputOf z)) p ∙ ap f (sym (input-at m k h))) ∙ rw e
+-- one input with another frequency alarm, remainder and soak
+abbrev pub alarmed : Input → Bool → ℕ → ℕ → Input
+alarmed x frequency remainder soak = record { activity = x .activity; frequency = frequency; remainder = remainder; soak = soak }
 
--- past the eighth place there is nothing to alter
-pub altered-out : (f : Input → Input) (m : Monitors) (i : ℕ) {k : ℕ} → k ≡ i - 1 → 8 ≤ k → inputsOf m ≡ altered f i (inputsOf m)
+-- input i altered: the numbers at its place are those of the altered input, and the others stay
+pub altered-lane : (f : Input → Input) (m r : Monitors) (i : ℕ) {k : ℕ} → k ≡ i - 1
+    → (k < 8 → inputOf (laneAt r k) ≡ f (inputOf (laneAt m k))) → ((j : ℕ) → (j ≡ k → ⊥) → inputOf (laneAt r j) ≡ inputOf (laneAt m j))
+    → inputsOf r ≡ altered f i (inputsOf m)
 unfolding altered inputsOf
-altered-out f m i e h = sym (set-out (inputsOf m) (i - 1) (f (input (inputsOf m) i)) (omega arith))
+altered-lane f m r i {k} e same other =
+    eight-set (λ j. inputOf (laneAt m j)) (λ j. inputOf (laneAt r j)) k (f (getD (inputsOf m) k freshInput))
+    (λ h. same h ∙ ap f (sym (input-at m k h))) other
+    ∙ rw e

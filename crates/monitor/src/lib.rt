@@ -5,7 +5,7 @@ ghost use mathlib.Core.Bool.{_&&_};
 ghost use mathlib.Core.List.{[], _∷_};
 ghost use lib.Dec.{leb};
 ghost use lib.IntN.{natAbs};
-ghost use lib.ListN.{length, replicate};
+ghost use lib.ListN.{length, replicate, getD};
 ghost use lib.ListN as ListN;
 ghost use Rattle.rules.specs.Words.{bit, isInput};
 ghost use Rattle.rules.specs.Monitors.{bucket, levelAfter, decayAfter, alarmAfter, good, soakAfter, monitored};
@@ -149,25 +149,6 @@ fn after(x: Lane, bad: bool) -> Lane
     }
 }
 
-// The rule `unsoaked`.
-fn soak_lost(x: Lane) -> Lane
-    ensures { λ r. ⌜ inputOf r ≡ unsoaked (inputOf x) ⌝ }
-{
-    let mut r = x;
-    r.soak = 0;
-    r
-}
-
-// The rule `lockAlarmed`.
-fn lock_alarmed(x: Lane) -> Lane
-    ensures { λ r. ⌜ inputOf r ≡ lockAlarmed (inputOf x) ⌝ }
-{
-    let mut r = x;
-    r.remainder = ALARM_TICKS;
-    r.soak = 0;
-    r
-}
-
 // The magnitude of a byte in two's complement. No byte is negated: from 128 on it is 256 less the byte, so that of -128 is 128.
 fn magnitude(b: u8) -> u8
     ensures { λ r. ⌜ r ≡ natAbs (signedByte b) ⌝ }
@@ -184,15 +165,6 @@ fn frequency_of(reject: u8, limit: u8, magnitude: u8, frequency: u16) -> u16
         1,
         either(magnitude <= limit, 0, frequency),
     )
-}
-
-// The rule `measured`.
-fn judged(x: Lane, offset: u8, reject: u8, limit: u8) -> Lane
-    ensures { λ r. ⌜ inputOf r ≡ measured reject limit (signedByte offset) (inputOf x) ⌝ }
-{
-    let mut r = x;
-    r.frequency = frequency_of(reject, limit, magnitude(offset), x.frequency);
-    r
 }
 
 // ---- the eight inputs
@@ -315,7 +287,7 @@ fn place(i: u8) -> usize
     down(wide16(i)) as usize
 }
 
-// One number replaced, if there is a place k. The proof of `placed` also takes from here that an array of eight has eight numbers.
+// One number replaced, if there is a place k. The laws of one input altered also take from here that an array of eight has eight numbers.
 fn put(a: [u16; 8], k: usize, v: u16) -> [u16; 8]
     ensures { λ r. ⌜ (r ≡ ListN.set a k v) × (length a ≡ 8) ⌝ }
 {
@@ -327,24 +299,14 @@ fn put(a: [u16; 8], k: usize, v: u16) -> [u16; 8]
     r
 }
 
-// The numbers of one input replaced, if there is a place k.
-fn placed(m: Monitors, k: usize, x: Lane) -> Monitors
-    ensures { λ r. ⌜ inputsOf r ≡ ListN.set (inputsOf m) k (inputOf x) ⌝ }
+// The number at a place, or 0 where there is none.
+fn number_at(a: [u16; 8], k: usize) -> u16
+    ensures { λ r. ⌜ r ≡ getD a k 0 ⌝ }
 {
-    let level = m.level;
-    let decay = m.decay;
-    let active = m.active;
-    let frequency = m.frequency;
-    let remainder = m.remainder;
-    let soak = m.soak;
-    Monitors {
-        level: put(level, k, x.level),
-        decay: put(decay, k, x.decay),
-        active: put(active, k, x.active),
-        frequency: put(frequency, k, x.frequency),
-        remainder: put(remainder, k, x.remainder),
-        soak: put(soak, k, x.soak),
+    if k < 8 {
+        return a[k];
     }
+    0
 }
 
 // A measurement of input i: `measured`.
@@ -352,10 +314,15 @@ pub fn measure(m: Monitors, i: u8, offset: u8, reject: u8, limit: u8) -> Monitor
     ensures { λ r. ⌜ inputsOf r ≡ altered (measured reject limit (signedByte offset)) i (inputsOf m) ⌝ }
 {
     let k = place(i);
-    if k < 8 {
-        return placed(m, k, judged(lane_at(m, k), offset, reject, limit));
-    }
-    m
+    let old = m.frequency;
+    let new = put(
+        old,
+        k,
+        frequency_of(reject, limit, magnitude(offset), number_at(old, k)),
+    );
+    let mut r = m;
+    r.frequency = new;
+    r
 }
 
 // The lock alarm of input i: `lockAlarmed`.
@@ -363,10 +330,14 @@ pub fn alarm(m: Monitors, i: u8) -> Monitors
     ensures { λ r. ⌜ inputsOf r ≡ altered lockAlarmed i (inputsOf m) ⌝ }
 {
     let k = place(i);
-    if k < 8 {
-        return placed(m, k, lock_alarmed(lane_at(m, k)));
-    }
-    m
+    let remainder = m.remainder;
+    let soak = m.soak;
+    let set = put(remainder, k, ALARM_TICKS);
+    let none = put(soak, k, 0);
+    let mut r = m;
+    r.remainder = set;
+    r.soak = none;
+    r
 }
 
 // The soak of input i at 0: `unsoaked`.
@@ -374,10 +345,11 @@ pub fn unsoak(m: Monitors, i: u8) -> Monitors
     ensures { λ r. ⌜ inputsOf r ≡ altered unsoaked i (inputsOf m) ⌝ }
 {
     let k = place(i);
-    if k < 8 {
-        return placed(m, k, soak_lost(lane_at(m, k)));
-    }
-    m
+    let soak = m.soak;
+    let none = put(soak, k, 0);
+    let mut r = m;
+    r.soak = none;
+    r
 }
 
 // ---- qualified

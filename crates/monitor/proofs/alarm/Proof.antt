@@ -1,19 +1,27 @@
--- An input that is there is altered at its place (`altered-at`), any other nowhere (`altered-out`).
+-- Input i's remainder and soak alone are others (`altered-lane`).
+use mathlib.Core.Path.{_∙_}
+use lib.ListN.{set}
+use lib.Seq.{getD-set-other}
 use Rattle.rules.specs.Monitors.{lockAlarmed}
-use Rattle.monitor.proofs.Lanes.{altered-at, altered-out}
+use Rattle.monitor.specs.Bridge.{inputOf, laneAt, inputsOf}
+use Rattle.monitor.proofs.Lanes.{withAlarms, alarmed, same-at, altered-lane}
 use Rattle.monitor.proofs.alarm.Statement.{statement}
 use Rattle.monitor.proofs.alarm.Tie as tie
 
 returns : tie.Need-returns
+unfolding lockAlarmed
 returns c =
-    let p = c .before .before .before .before in
-    let a = p .before .args in
-    altered-at lockAlarmed (a .m) (a .i)
-    (p .place .ensures) (c .before .before .before .if1 .taken) (c .before .before .lane-at .ensures) (c .before .lock-alarmed .ensures) (c .placed .ensures)
-
-returns-2 : tie.Need-returns-2
-returns-2 c = let a = c .before .before .args in altered-out lockAlarmed (a .m) (a .i) (c .before .place .ensures) (c .if1 .left)
+    let placed = c .before .before .before .before in
+    let m = placed .before .args .m in
+    let k = placed .place .result in
+    let remainder = c .before .put .ensures in
+    let soak = c .put2 .ensures in
+    (λ t. inputsOf (withAlarms m (m .frequency) (remainder .0 t) (soak .0 t)))
+    ∙ altered-lane lockAlarmed m (withAlarms m (m .frequency) (set (m .remainder) k 782) (set (m .soak) k 0)) (placed .before .args .i) (placed .place .ensures)
+    (λ h t. let x = inputOf (laneAt m k) in
+    alarmed x (x .frequency) (same-at (m .remainder) k 782 (remainder .1) h t) (same-at (m .soak) k 0 (soak .1) h t))
+    (λ j n t. let x = inputOf (laneAt m j) in
+    alarmed x (x .frequency) (getD-set-other (m .remainder) k j 782 0 n t) (getD-set-other (m .soak) k j 0 0 n t))
 
 pub alarm-spec : {M : Type 1} → statement M
-alarm-spec =
-    tie.close (tie.spec (λ c κs. tt) (λ c κs. c .if1 .taken) (λ c κs. tt) (λ c κs. tt) returns returns-2)
+alarm-spec = tie.close (tie.spec (λ c κs. tt) (λ c κs. tt) (λ c κs. tt) returns)

@@ -1,19 +1,24 @@
--- An input that is there is altered at its place (`altered-at`), any other nowhere (`altered-out`).
+-- Input i's soak alone is another (`altered-lane`).
+use mathlib.Core.Path.{_∙_}
+use lib.ListN.{set}
+use lib.Seq.{getD-set-other}
 use Rattle.rules.specs.Monitors.{unsoaked}
-use Rattle.monitor.proofs.Lanes.{altered-at, altered-out}
+use Rattle.monitor.specs.Bridge.{inputOf, laneAt, inputsOf}
+use Rattle.monitor.proofs.Lanes.{withAlarms, alarmed, same-at, altered-lane}
 use Rattle.monitor.proofs.unsoak.Statement.{statement}
 use Rattle.monitor.proofs.unsoak.Tie as tie
 
 returns : tie.Need-returns
+unfolding unsoaked
 returns c =
-    let p = c .before .before .before .before in
-    let a = p .before .args in
-    altered-at unsoaked (a .m) (a .i)
-    (p .place .ensures) (c .before .before .before .if1 .taken) (c .before .before .lane-at .ensures) (c .before .soak-lost .ensures) (c .placed .ensures)
-
-returns-2 : tie.Need-returns-2
-returns-2 c = let a = c .before .before .args in altered-out unsoaked (a .m) (a .i) (c .before .place .ensures) (c .if1 .left)
+    let placed = c .before .before in
+    let m = placed .before .args .m in
+    let k = placed .place .result in
+    let soak = c .put .ensures in
+    (λ t. inputsOf (withAlarms m (m .frequency) (m .remainder) (soak .0 t)))
+    ∙ altered-lane unsoaked m (withAlarms m (m .frequency) (m .remainder) (set (m .soak) k 0)) (placed .before .args .i) (placed .place .ensures)
+    (λ h t. let x = inputOf (laneAt m k) in alarmed x (x .frequency) (x .remainder) (same-at (m .soak) k 0 (soak .1) h t))
+    (λ j n t. let x = inputOf (laneAt m j) in alarmed x (x .frequency) (x .remainder) (getD-set-other (m .soak) k j 0 0 n t))
 
 pub unsoak-spec : {M : Type 1} → statement M
-unsoak-spec =
-    tie.close (tie.spec (λ c κs. tt) (λ c κs. c .if1 .taken) (λ c κs. tt) (λ c κs. tt) returns returns-2)
+unsoak-spec = tie.close (tie.spec (λ c κs. tt) (λ c κs. tt) returns)
