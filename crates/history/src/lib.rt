@@ -173,10 +173,10 @@ fn sampled(x: i32, t: Tally) -> Update
 pub fn open_emptied(t: Tally) -> Tally
     ensures { λ r. ⌜ Steps t r openEmptied ⌝ }
 {
-    let mut next = t;
-    next.open = 0;
-    next.filled = 0;
-    next
+    let mut rest = t;
+    rest.open = 0;
+    rest.filled = 0;
+    rest
 }
 
 // `withBlocks []`: blocks and open block empty.

@@ -333,10 +333,10 @@ pub fn alarm(m: Monitors, i: u8) -> Monitors
     let remainder = m.remainder;
     let soak = m.soak;
     let set = put(remainder, k, ALARM_TICKS);
-    let none = put(soak, k, 0);
+    let lost = put(soak, k, 0);
     let mut r = m;
     r.remainder = set;
-    r.soak = none;
+    r.soak = lost;
     r
 }
 

@@ -87,6 +87,9 @@ table =
     ∷ stateByte (run (unit (setting 0 0 0) (clocks true false false)) (tick 0 false (pos 0) ∷ hit ∷ [])) is 0x00
     -- "one that takes the best unmasked input unjudged"
     ∷ chosen (setting 0 0 0) (clocks false false false) (settled 0) .selected is 0
+    -- manual: "selects s if qualified, masked or not, else 0"
+    ∷ chosen (written 0x41 2 (written 0x42 0 (fresh .settings))) (clocks true true false) (settled 1) .selected is 2
+    ∷ chosen (written 0x41 3 (fresh .settings)) (clocks true true false) (settled 1) .selected is 0
     -- "one that refuses each event"
     ∷ refusal fresh (tick 0 false (pos 0)) is 0
     ∷ refusal fresh (write 0x40 1) is 0
