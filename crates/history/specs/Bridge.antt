@@ -1,8 +1,9 @@
 -- From the code's tally and sums to the rules' history.
 use Prim.Native.Nat.{ℕ}
 use mathlib.Core.Path.{_≡_}
+use mathlib.Core.Bool.{false}
 use mathlib.Core.List.{List, _∷_, map}
-use lib.IntN.{ℤ}
+use lib.IntN.{ℤ, pos}
 use lib.ListN.{take}
 use Rattle.rules.specs.Words.{if_then_else_}
 use Rattle.rules.specs.History.{History, saturated}
@@ -42,6 +43,7 @@ sumsAfter u sums = if u .done then pushed (u .sum) sums else sums
 abbrev pub Steps : Tally → Tally → (History → History) → Type 0
 Steps t r rule = (sums backup : List ℤ) → historyOf r sums backup ≡ rule (historyOf t sums backup)
 
--- From tally t to update u is the rule's step, whatever the sums are.
-abbrev pub Updates : Tally → Update → (History → History) → Type 0
-Updates t u rule = (sums backup : List ℤ) → historyOf (u .tally) (sumsAfter u sums) backup ≡ rule (historyOf t sums backup)
+-- From tally t to update u is the rule's step, whatever the sums are; where no block is done, the sum to push is 0.
+pub record Updates (t : Tally) (u : Update) (rule : History → History) : Type 0 where
+  pub step : (sums backup : List ℤ) → historyOf (u .tally) (sumsAfter u sums) backup ≡ rule (historyOf t sums backup)
+  pub none : u .done ≡ false → u .sum ≡ pos 0

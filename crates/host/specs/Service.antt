@@ -63,7 +63,7 @@ ownReady u = leb readyBlocks (u .core .tally .count)
 
 -- ---- demand 2
 
--- "For every list of events from a fresh unit, state and each register agree with the rules"; "after each event the unit's own selected and Ready equal them".
+-- After every list of events from a fresh unit its state and each register agree with the rules; "the unit's own selected and Ready equal them".
 pub record Agrees (es : List Event) (u : Stored) : Type 0 where
   pub state : modelOf u ≡ run fresh es
   pub selected-is : ownSelected u ≡ selected (run fresh es)

@@ -106,8 +106,8 @@ unselectedMode ready = if ready then holdover else freeRun
 unfoldable pub unselectedLoop : Bool → Loop
 unselectedLoop ready = record { mode = unselectedMode ready; lockRun = 0; unlockRun = 0 }
 
--- The state where `before` was selected and `next` now is; `control` says automatic, and `op` is Op_Mode. "Op_Mode 0 in manual, or selected 9, is Free Run. Else selected 0 is Holdover if Ready, otherwise
--- Free Run. A newly selected reference starts Pre-locked if the state was Free Run, else Pre-locked 2."
+-- The state where `before` was selected and `next` now is; `control` says automatic, and `op` is Op_Mode. "Op_Mode 0 in manual, or selected 9, is Free Run.
+-- Else selected 0 is Holdover if Ready, otherwise Free Run. A newly selected reference starts Pre-locked if the state was Free Run, else Pre-locked 2."
 unfoldable pub modeAfter : Bool → ℕ → Bool → ℕ → ℕ → Mode → Mode
 modeAfter control op ready before next mode =
     if (not control && eqb op 0) || eqb next 9 then freeRun

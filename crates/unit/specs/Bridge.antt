@@ -1,9 +1,9 @@
 -- From the unit's stored state to the rules' state.
 use Prim.Native.Nat.{ℕ}
 use mathlib.Core.Path.{_≡_}
-use mathlib.Core.Bool.{Bool}
+use mathlib.Core.Bool.{false}
 use mathlib.Core.List.{List}
-use lib.IntN.{ℤ}
+use lib.IntN.{ℤ, pos}
 use lib.ListN.{length}
 use Rattle.rules.specs.Words.{if_then_else_}
 use Rattle.rules.specs.Settings.{Settings}
@@ -42,9 +42,10 @@ Steps k r rule = (sums backup : List ℤ) → length sums ≡ 64 → stateOf r s
 abbrev pub sumsAfter : Ticked → List ℤ → List ℤ
 sumsAfter t sums = if t .done then pushed (t .sum) sums else sums
 
--- The same for a tick, which may complete a block.
-abbrev pub Ticks : Core → Ticked → (State → State) → Type 0
-Ticks k t rule = (sums backup : List ℤ) → length sums ≡ 64 → stateOf (t .core) (sumsAfter t sums) backup ≡ rule (stateOf k sums backup)
+-- The same for a tick, which may complete a block; where it does not, the sum to push is 0.
+pub record Ticks (k : Core) (t : Ticked) (rule : State → State) : Type 0 where
+  pub step : (sums backup : List ℤ) → length sums ≡ 64 → stateOf (t .core) (sumsAfter t sums) backup ≡ rule (stateOf k sums backup)
+  pub none : t .done ≡ false → t .sum ≡ pos 0
 
 -- a state with other settings
 abbrev pub withSettings : Settings → State → State

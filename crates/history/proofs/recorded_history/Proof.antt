@@ -19,7 +19,7 @@ whole : (c : tie.After-recorded)
     ≡ recorded (c .before .args .policy) (c .before .args .selected) (c .before .args .locked) (c .before .args .x) (wholeOf (c .before .args .h))
 whole c =
     let a = c .before .args in
-    c .recorded .ensures (a .h .sums) (a .h .backup)
+    c .recorded .ensures .step (a .h .sums) (a .h .backup)
     ∙ ap (λ (x : ℤ). recorded (a .policy) (a .selected) (a .locked) x (wholeOf (a .h))) (toZ-ofZ (c .before .fits .x))
 
 returns : tie.Need-returns

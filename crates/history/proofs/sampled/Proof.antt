@@ -1,6 +1,7 @@
 -- The open block's sum is the rule's, and where the block is complete, so are the kept sums with it.
 use Prim.Native.Nat.{_+_}
-use mathlib.Core.Path.{_≡_, ap, _∙_}
+use mathlib.Core.Path.{_≡_, refl, ap, _∙_}
+use mathlib.Core.Bool.{true≢false}
 use mathlib.Core.List.{_∷_}
 use native.Mathlib.Omega.{arith}
 use lib.IntN.{ℤ, _+ℤ_}
@@ -29,21 +30,29 @@ sum-is c =
 
 returns : tie.Need-returns
 unfolding sampled refilled
-returns c sums backup =
+returns c =
     let t = c .before .before .before .before .before .args .t in
-    rw (lt-leb 128 (t .filled + 1) (omega arith))
-    (λ i. refilled (keptOf sums (t .count)) (sum-is (c .before .before .before) i) (t .filled + 1) (historyOf t sums backup))
+    record {
+      step = λ sums backup.
+          rw (lt-leb 128 (t .filled + 1) (omega arith))
+          (λ i. refilled (keptOf sums (t .count)) (sum-is (c .before .before .before) i) (t .filled + 1) (historyOf t sums backup));
+      none = λ h. refl;
+    }
 
 returns-2 : tie.Need-returns-2
 unfolding sampled withBlocks refilled saturated
-returns-2 c sums backup =
+returns-2 c =
     let t = c .before .before .before .before .before .args .t in
     let l = c .before .before .before in
-    rw (le-leb 128 (t .filled + 1) (omega arith))
-    (λ i. withBlocks
-    ((kept-push (toZ w64 (ofZ w64 (l .summed .result))) sums (t .count) (c .least .result + 1) (omega arith)
-    ∙ ap (λ (z : ℤ). take 64 (z ∷ keptOf sums (t .count))) (sum-is l)) i)
-    (historyOf t sums backup))
+    record {
+      step = λ sums backup.
+          rw (le-leb 128 (t .filled + 1) (omega arith))
+          (λ i. withBlocks
+          ((kept-push (toZ w64 (ofZ w64 (l .summed .result))) sums (t .count) (c .least .result + 1) (omega arith)
+          ∙ ap (λ (z : ℤ). take 64 (z ∷ keptOf sums (t .count))) (sum-is l)) i)
+          (historyOf t sums backup));
+      none = λ h. absurd (true≢false h);
+    }
 
 pub sampled-spec : {M : Type 1} → statement M
 sampled-spec = tie.close (tie.spec (search needs) (search needs) returns (search needs) (search needs) returns-2)

@@ -19,23 +19,27 @@ use Rattle.unit.proofs.tick.Tie as tie
 returns : tie.Need-returns
 unfolding ticked step5
 returns c =
-    λ sums backup h.
     let n = c .before .before .before .before .before .before .steps-1-to-4 .result in
-    let kept = historyOf (n .tally) sums backup in
     let u = c .before .before .recorded .result in
     let told : toZ w64 (ofZ w64 (u .sum)) ≡ u .sum = stored (u .sum) (search needs) in
-    let history = (λ i. historyOf (u .tally) (if u .done then pushed (told i) sums else sums) backup)
-    ∙ c .before .before .recorded .ensures sums backup
-    ∙ (λ i. recorded (c .before .before .before .before .policy .ensures i) (n .choice .selected) (c .before .before .before .is-locked .ensures i) (toZ-ofZ (c .before .before .before .before .before .before .before .fits .x) i) kept) in
-    (λ i. record {
-      inputs = inputsOf (n .monitors);
-      settings = settingsFrom (n .regs);
-      loop = loopOf (n .pll);
-      choice = choiceOf (n .choice);
-      history = history i;
-      holding = n .holding;
-    })
-    ∙ ap (step5 (c .before .before .before .before .before .before .before .args .x)) (c .before .before .before .before .before .before .steps-1-to-4 .ensures sums backup h)
+    let updates = c .before .before .recorded .ensures in
+    record {
+      step = λ sums backup h.
+          let kept = historyOf (n .tally) sums backup in
+          let history = (λ i. historyOf (u .tally) (if u .done then pushed (told i) sums else sums) backup)
+          ∙ updates .step sums backup
+          ∙ (λ i. recorded (c .before .before .before .before .policy .ensures i) (n .choice .selected) (c .before .before .before .is-locked .ensures i) (toZ-ofZ (c .before .before .before .before .before .before .before .fits .x) i) kept) in
+          (λ i. record {
+            inputs = inputsOf (n .monitors);
+            settings = settingsFrom (n .regs);
+            loop = loopOf (n .pll);
+            choice = choiceOf (n .choice);
+            history = history i;
+            holding = n .holding;
+          })
+          ∙ ap (step5 (c .before .before .before .before .before .before .before .args .x)) (c .before .before .before .before .before .before .steps-1-to-4 .ensures sums backup h);
+      none = λ h. told ∙ updates .none h;
+    }
 
 pub tick-spec : {M : Type 1} → statement M
 tick-spec =

@@ -24,7 +24,7 @@ whole : (c : tie.After-tick) (backup : List ℤ)
     ≡ ticked (a .mask) (a .lock) (a .x) (stateOf (a .k) (now (a .sums)) backup)
 whole c backup places =
     let a = c .before .args in
-    c .tick .ensures (now (a .sums)) backup places
+    c .tick .ensures .step (now (a .sums)) backup places
     ∙ ap (λ (x : ℤ). ticked (a .mask) (a .lock) x (stateOf (a .k) (now (a .sums)) backup)) (toZ-ofZ (c .before .fits .x))
 
 returns : tie.Need-returns
