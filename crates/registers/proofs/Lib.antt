@@ -1,4 +1,3 @@
--- Laws of the registers' table, of their places and of writes, which the functions' proofs cite.
+-- Laws of the registers' table and of their places, which the proofs cite.
 pub mod Table
 pub mod Places
-pub mod Writes

@@ -1,17 +1,12 @@
-// The registers (document 01, "Registers"): their table, the check of a write, what a write stores, and what the settings say.
+// The registers (document 01, "Registers"): their table, and what the settings say.
 // A unit keeps one byte for each register, in address order: 0x1c to 0x27, then 0x40 to 0x4e. The rules' settings are `settingsFrom` of the 27 bytes.
 // The bytes of 0x26 and of the registers that are read only stay 0: what these show is kept elsewhere.
 ghost use mathlib.Core.Path.{_≡_};
-ghost use Prim.Native.Nat.{_+_, _<_};
-ghost use lib.Dec.{leb};
-ghost use Rattle.rules.specs.Words.{if_then_else_};
+ghost use Prim.Native.Nat.{_+_};
 ghost use Rattle.rules.specs.Settings as settings;
 ghost use Rattle.rules.specs.Registers as map;
 ghost use Rattle.rules.specs.Registers.{settingsFrom, freshTable};
 ghost use Rattle.registers.specs.Bridge.{row};
-ghost use Rattle.rules.specs.Refusals.{limitsRefused, commandRefused, writeRefusal};
-ghost use mathlib.Core.Bool.{_&&_};
-ghost use lib.Dec.{eqb};
 
 // A row of the table: the columns Fresh, R and Largest.
 pub struct Register {
@@ -180,60 +175,11 @@ pub fn setting(regs: [u8; 27], a: u8) -> u8
     0
 }
 
-// 0x24: Free Run as a candidate.
-pub fn free_run_register(regs: [u8; 27]) -> u8
-    ensures { λ r. ⌜ r ≡ settingsFrom regs 0x24 ⌝ }
-{
-    setting(regs, 0x24)
-}
-
-// 0x25: the history policy.
-pub fn policy(regs: [u8; 27]) -> u8
-    ensures { λ r. ⌜ r ≡ settings.policy (settingsFrom regs) ⌝ }
-{
-    setting(regs, 0x25)
-}
-
 // 0x40: automatic control.
 pub fn is_automatic(regs: [u8; 27]) -> bool
     ensures { λ r. ⌜ r ≡ settings.automatic (settingsFrom regs) ⌝ }
 {
     setting(regs, 0x40) == 1
-}
-
-// 0x41: Op_Mode.
-pub fn op_mode(regs: [u8; 27]) -> u8
-    ensures { λ r. ⌜ r ≡ settings.opMode (settingsFrom regs) ⌝ }
-{
-    setting(regs, 0x41)
-}
-
-// 0x42: the mask; a set bit is a usable input.
-pub fn usable_mask(regs: [u8; 27]) -> u8
-    ensures { λ r. ⌜ r ≡ settingsFrom regs 0x42 ⌝ }
-{
-    setting(regs, 0x42)
-}
-
-// 0x43: the reversion delay in minutes.
-pub fn delay_minutes(regs: [u8; 27]) -> u8
-    ensures { λ r. ⌜ r ≡ settingsFrom regs 0x43 ⌝ }
-{
-    setting(regs, 0x43)
-}
-
-// 0x44: the reject limit, in 0.5 ppm.
-pub fn reject_limit(regs: [u8; 27]) -> u8
-    ensures { λ r. ⌜ r ≡ settings.reject (settingsFrom regs) ⌝ }
-{
-    setting(regs, 0x44)
-}
-
-// 0x45: the qualification limit, in 0.5 ppm.
-pub fn qualification_limit(regs: [u8; 27]) -> u8
-    ensures { λ r. ⌜ r ≡ settings.qualification (settingsFrom regs) ⌝ }
-{
-    setting(regs, 0x45)
 }
 
 // The register of candidate c, 0x1b + c: 0x1c to 0x23 for the inputs 1 to 8, 0x24 for Free Run, 9. An address past 255 is not in the map.
@@ -246,110 +192,9 @@ fn own_register(regs: [u8; 27], c: u8) -> u8
     0
 }
 
-// Bits 2-0 of candidate c's register: its priority, 0 the best.
-pub fn priority_of(regs: [u8; 27], c: u8) -> u8
-    ensures { λ r. ⌜ r ≡ settings.priority (settingsFrom regs) c ⌝ }
-{
-    own_register(regs, c) % 8
-}
-
 // Bit 3 of candidate c's register: revertive.
 pub fn is_revertive(regs: [u8; 27], c: u8) -> bool
     ensures { λ r. ⌜ r ≡ settings.revertive (settingsFrom regs) c ⌝ }
 {
     own_register(regs, c) / 8 % 2 == 1
-}
-
-// ---- a write
-
-// What a write stores: "inputs 1 to 8: .. bits 7-4 ignored, read 0".
-fn stored(a: u8, v: u8) -> u8
-    ensures { λ r. ⌜ r ≡ map.stored a v ⌝ }
-{
-    if a <= 0x23 { v % 16 } else { v }
-}
-
-// The registers after a write that was not turned down, of any address but 0x26, which is a command to the history.
-// Of an address that is not in the map nothing is stored.
-pub fn written(regs: [u8; 27], a: u8, v: u8) -> [u8; 27]
-    ensures { λ r. ⌜ settingsFrom r ≡ (if map.inMap a then map.written a v (settingsFrom regs) else settingsFrom regs) ⌝ }
-{
-    let k = place(a);
-    let mut r = regs;
-    if k < 27 {
-        r[k] = stored(a, v);
-        return r;
-    }
-    r
-}
-
-// "reject − qualification" is 6 or more.
-fn limits_apart(reject: u8, qualification: u8) -> bool
-    ensures { λ r. ⌜ r ≡ leb (qualification + 6) reject ⌝ }
-{
-    qualification as u16 + 6 <= reject as u16
-}
-
-// 4: "reject − qualification would be under 6".
-fn limits_refused(regs: [u8; 27], a: u8, v: u8) -> bool
-    ensures { λ r. ⌜ r ≡ limitsRefused (settingsFrom regs) a v ⌝ }
-{
-    if a == 0x44 {
-        return !limits_apart(v, qualification_limit(regs));
-    }
-    if a == 0x45 {
-        return !limits_apart(reject_limit(regs), v);
-    }
-    false
-}
-
-// 8: "command 1 unless Ready, command 2 without backup".
-fn command_refused(ready: bool, held: bool, a: u8, v: u8) -> bool
-    ensures { λ r. ⌜ r ≡ (eqb a 0x26 && commandRefused ready held v) ⌝ }
-{
-    if a == 0x26 {
-        if v == 1 {
-            return !ready;
-        }
-        if v == 2 {
-            return !held;
-        }
-    }
-    false
-}
-
-// "Checked in number order": the number of the first test that turns a write down, or 0.
-fn first_refusal(outside: bool, readonly: bool, above: bool, limits: bool, command: bool) -> u8
-    ensures { λ r. ⌜ r ≡ (if outside then 1 else (if readonly then 2 else (if above then 3 else (if limits then 4 else (if command then 8 else 0))))) ⌝ }
-{
-    if outside {
-        return 1;
-    }
-    if readonly {
-        return 2;
-    }
-    if above {
-        return 3;
-    }
-    if limits {
-        return 4;
-    }
-    if command {
-        return 8;
-    }
-    0
-}
-
-// What a write is turned down with, or 0.
-pub fn write_refusal(regs: [u8; 27], a: u8, v: u8, ready: bool, held: bool) -> u8
-    ensures { λ r. ⌜ r ≡ writeRefusal (settingsFrom regs) ready held a v ⌝ }
-{
-    let register = register_at(a);
-    first_refusal(
-        !in_map(a),
-        register.readonly,
-        register.largest < v,
-        limits_refused(regs, a, v),
-        command_refused(ready, held, a, v),
-    )
 }

@@ -23,12 +23,9 @@ use arith::wide32;
 use monitor::FULL_SOAK;
 use monitor::Monitors;
 use monitor::qualified_at;
-use registers::delay_minutes;
-use registers::free_run_register;
 use registers::is_automatic;
 use registers::is_revertive;
-use registers::op_mode;
-use registers::usable_mask;
+use registers::setting;
 
 // One tick more than the longest delay: the wait stops here.
 const WAIT_LIMIT: u32 = 119_533;
@@ -186,9 +183,9 @@ fn is_candidate(m: Monitors, regs: [u8; 27], c: u8) -> bool
     ensures { λ r. ⌜ r ≡ candidate (settingsFrom regs) (inputsOf m) c ⌝ }
 {
     if c == 9 {
-        return free_run_register(regs) / 16 % 2 == 1;
+        return setting(regs, 0x24) / 16 % 2 == 1;
     }
-    both(is_unmasked(usable_mask(regs), c), qualified_at(m, c))
+    both(is_unmasked(setting(regs, 0x42), c), qualified_at(m, c))
 }
 
 // The mask of the available references, as 0x47 shows it.
@@ -229,7 +226,7 @@ fn reselected(m: Monitors, regs: [u8; 27], b: u8, c: Choice) -> Choice
         }
         let reverts = is_revertive(regs, c.selected);
         if reverts {
-            return reverted(delay_ticks(delay_minutes(regs)), b, c);
+            return reverted(delay_ticks(setting(regs, 0x43)), b, c);
         }
         return settled(c.selected);
     }
@@ -240,7 +237,7 @@ fn reselected(m: Monitors, regs: [u8; 27], b: u8, c: Choice) -> Choice
 fn manual(m: Monitors, regs: [u8; 27]) -> Choice
     ensures { λ r. ⌜ choiceOf r ≡ selection.manual (settingsFrom regs) (inputsOf m) ⌝ }
 {
-    let s = op_mode(regs);
+    let s = setting(regs, 0x41);
     let good = qualified_at(m, s);
     if good {
         return settled(s);

@@ -19,13 +19,13 @@ returns : tie.Need-returns
 unfolding candidate usable bit
 returns c =
     let a = c .before .before .args in
-    ap (λ n. eqb (n / 16 % 2) 1) (c .free-run-register .ensures) ∙ ap (candidate (settingsFrom (a .regs)) (inputsOf (a .m))) (sym (c .before .if1 .taken))
+    ap (λ n. eqb (n / 16 % 2) 1) (c .setting .ensures) ∙ ap (candidate (settingsFrom (a .regs)) (inputsOf (a .m))) (sym (c .before .if1 .taken))
 
 returns-2 : tie.Need-returns-2
 unfolding candidate available usable
 returns-2 c =
     let a = c .before .before .before .before .before .args in
-    let u = c .before .before .is-unmasked .ensures ∙ ap (λ n. isInput (a .c) && bitOf n (a .c)) (c .before .before .before .usable-mask .ensures) in
+    let u = c .before .before .is-unmasked .ensures ∙ ap (λ n. isInput (a .c) && bitOf n (a .c)) (c .before .before .before .setting2 .ensures) in
     rw (ne-eqb _ _ (c .before .before .before .before .if1 .left))
     (c .both .ensures ∙ (λ i. u i && c .before .qualified-at .ensures i)
     ∙ and-again (isInput (a .c)) (bitOf (settingsFrom (a .regs) 0x42) (a .c)) (qualified (input (inputsOf (a .m)) (a .c))))

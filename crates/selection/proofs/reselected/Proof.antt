@@ -18,7 +18,7 @@ unfolding reselected
 returns-2 c =
     let a = c .before .before .before .before .before .before .before .before .before .args in
     rw (← c .before .before .before .before .before .before .before .before .is-candidate .ensures, c .before .before .before .before .before .before .before .if1 .taken, ne-eqb _ _ (c .before .before .before .before .before .if2 .left), ← c .before .before .before .before .is-revertive .ensures, c .before .before .before .if3 .taken)
-    (c .reverted .ensures ∙ ap (λ n. reverted n (a .b) (choiceOf (a .c))) (c .before .delay-ticks .ensures ∙ ap delayTicks (c .before .before .delay-minutes .ensures)))
+    (c .reverted .ensures ∙ ap (λ n. reverted n (a .b) (choiceOf (a .c))) (c .before .delay-ticks .ensures ∙ ap delayTicks (c .before .before .setting .ensures)))
 
 returns-3 : tie.Need-returns-3
 unfolding reselected

@@ -1,9 +1,9 @@
 -- `written` meets its contract: a place belongs to one address alone (`write-in`, `write-out`).
 use native.Mathlib.Omega.{arith}
 use borrow.Author.Needs.{needs}
-use Rattle.registers.proofs.Writes.{write-in, write-out}
-use Rattle.registers.proofs.written.Statement.{statement}
-use Rattle.registers.proofs.written.Tie as tie
+use Rattle.writes.proofs.Writes.{write-in, write-out}
+use Rattle.writes.proofs.written.Statement.{statement}
+use Rattle.writes.proofs.written.Tie as tie
 
 returns : tie.Need-returns
 returns c =

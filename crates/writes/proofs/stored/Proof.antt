@@ -1,8 +1,8 @@
 -- `stored` meets its contract, by the two sides of its test.
 use borrow.Author.Tests.{le-leb, lt-leb}
 use Rattle.rules.specs.Registers as map
-use Rattle.registers.proofs.stored.Statement.{statement}
-use Rattle.registers.proofs.stored.Tie as tie
+use Rattle.writes.proofs.stored.Statement.{statement}
+use Rattle.writes.proofs.stored.Tie as tie
 
 returns : tie.Need-returns
 unfolding map.stored

@@ -1,10 +1,10 @@
 -- `write_refusal` meets its contract: each test is the rule's, by what the functions that it calls ensure.
 use borrow.Author.Needs.{needs}
 use Rattle.rules.specs.Registers.{readOnly, largest}
 use Rattle.registers.specs.Bridge.{row}
 use Rattle.rules.specs.Refusals.{writeRefusal}
-use Rattle.registers.proofs.write_refusal.Statement.{statement}
-use Rattle.registers.proofs.write_refusal.Tie as tie
+use Rattle.writes.proofs.write_refusal.Statement.{statement}
+use Rattle.writes.proofs.write_refusal.Tie as tie
 
 returns : tie.Need-returns
 unfolding writeRefusal readOnly largest row

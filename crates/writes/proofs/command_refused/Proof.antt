@@ -2,8 +2,8 @@
 use mathlib.Core.Bool.{or-false}
 use borrow.Author.Tests.{ne-eqb}
 use Rattle.rules.specs.Refusals.{commandRefused}
-use Rattle.registers.proofs.command_refused.Statement.{statement}
-use Rattle.registers.proofs.command_refused.Tie as tie
+use Rattle.writes.proofs.command_refused.Statement.{statement}
+use Rattle.writes.proofs.command_refused.Tie as tie
 
 returns : tie.Need-returns
 unfolding commandRefused

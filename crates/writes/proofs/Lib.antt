@@ -1,0 +1,2 @@
+-- Laws of writes, which the functions' proofs cite.
+pub mod Writes

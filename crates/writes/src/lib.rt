@@ -1,0 +1,105 @@
+// Writes of registers (document 01, "Registers" and "Turned down"): what turns a write down, and what it stores.
+ghost use mathlib.Core.Path.{_≡_};
+ghost use mathlib.Core.Bool.{_&&_};
+ghost use Prim.Native.Nat.{_+_};
+ghost use lib.Dec.{leb, eqb};
+ghost use Rattle.rules.specs.Words.{if_then_else_};
+ghost use Rattle.rules.specs.Registers as map;
+ghost use Rattle.rules.specs.Registers.{settingsFrom};
+ghost use Rattle.rules.specs.Refusals.{limitsRefused, commandRefused, writeRefusal};
+use registers::in_map;
+use registers::place;
+use registers::register_at;
+use registers::setting;
+
+// What a write stores: "inputs 1 to 8: .. bits 7-4 ignored, read 0".
+fn stored(a: u8, v: u8) -> u8
+    ensures { λ r. ⌜ r ≡ map.stored a v ⌝ }
+{
+    if a <= 0x23 { v % 16 } else { v }
+}
+
+// The registers after a write that was not turned down, of any address but 0x26, which is a command to the history.
+// Of an address that is not in the map nothing is stored.
+pub fn written(regs: [u8; 27], a: u8, v: u8) -> [u8; 27]
+    ensures { λ r. ⌜ settingsFrom r ≡ (if map.inMap a then map.written a v (settingsFrom regs) else settingsFrom regs) ⌝ }
+{
+    let k = place(a);
+    let mut r = regs;
+    if k < 27 {
+        r[k] = stored(a, v);
+        return r;
+    }
+    r
+}
+
+// "reject − qualification" is 6 or more.
+fn limits_apart(reject: u8, qualification: u8) -> bool
+    ensures { λ r. ⌜ r ≡ leb (qualification + 6) reject ⌝ }
+{
+    qualification as u16 + 6 <= reject as u16
+}
+
+// 4: "reject − qualification would be under 6".
+fn limits_refused(regs: [u8; 27], a: u8, v: u8) -> bool
+    ensures { λ r. ⌜ r ≡ limitsRefused (settingsFrom regs) a v ⌝ }
+{
+    if a == 0x44 {
+        return !limits_apart(v, setting(regs, 0x45));
+    }
+    if a == 0x45 {
+        return !limits_apart(setting(regs, 0x44), v);
+    }
+    false
+}
+
+// 8: "command 1 unless Ready, command 2 without backup".
+fn command_refused(ready: bool, held: bool, a: u8, v: u8) -> bool
+    ensures { λ r. ⌜ r ≡ (eqb a 0x26 && commandRefused ready held v) ⌝ }
+{
+    if a == 0x26 {
+        if v == 1 {
+            return !ready;
+        }
+        if v == 2 {
+            return !held;
+        }
+    }
+    false
+}
+
+// "Checked in number order": the number of the first test that turns a write down, or 0.
+fn first_refusal(outside: bool, readonly: bool, above: bool, limits: bool, command: bool) -> u8
+    ensures { λ r. ⌜ r ≡ (if outside then 1 else (if readonly then 2 else (if above then 3 else (if limits then 4 else (if command then 8 else 0))))) ⌝ }
+{
+    if outside {
+        return 1;
+    }
+    if readonly {
+        return 2;
+    }
+    if above {
+        return 3;
+    }
+    if limits {
+        return 4;
+    }
+    if command {
+        return 8;
+    }
+    0
+}
+
+// What a write is turned down with, or 0.
+pub fn write_refusal(regs: [u8; 27], a: u8, v: u8, ready: bool, held: bool) -> u8
+    ensures { λ r. ⌜ r ≡ writeRefusal (settingsFrom regs) ready held a v ⌝ }
+{
+    let register = register_at(a);
+    first_refusal(
+        !in_map(a),
+        register.readonly,
+        register.largest < v,
+        limits_refused(regs, a, v),
+        command_refused(ready, held, a, v),
+    )
+}
