@@ -10,11 +10,12 @@ ghost use Rattle.rules.specs.Words.{if_then_else_};
 ghost use Rattle.rules.specs.State.{Ready};
 ghost use Rattle.rules.specs.History.{value};
 ghost use Rattle.rules.specs.Reading as reading;
-ghost use Rattle.unit.specs.Bridge.{stateOf, modelOf};
+ghost use Rattle.tick.specs.Bridge.{stateOf};
+ghost use Rattle.unit.specs.Bridge.{modelOf};
 ghost use Rattle.readout.specs.Bridge.{answerOf};
 use arith::weigh;
 use history::History;
-use unit::Core;
+use tick::Core;
 use unit::Unit;
 
 // The lesser of a number and 255.

@@ -8,11 +8,11 @@ ghost use lib.ListN.{length};
 ghost use Rattle.rules.specs.Run as rules;
 ghost use Rattle.rules.specs.Sheet as rules-sheet;
 ghost use Rattle.rules.specs.Sheet.{word16, word32, signedWord, settingsCount, eventsCount, eventsAt, settingsOf, eventsOf, allEvents, recordOf, records, front, outputAfter};
-ghost use Rattle.unit.specs.Bridge.{stateOf};
+ghost use Rattle.tick.specs.Bridge.{stateOf};
 ghost use Rattle.fields.specs.Bridge.{decodedOf};
 ghost use Rattle.sheet.specs.Parts.{over};
 use fields::Decoded;
-use unit::Core;
+use tick::Core;
 
 // ---- numbers in bytes, low byte first
 

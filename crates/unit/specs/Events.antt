@@ -9,7 +9,8 @@ use Rattle.unit.specs.declared.Event.{Event}
 use Rattle.unit.specs.declared.Event.the-variants.{Tick, Measurement, Hit, Write}
 use Rattle.unit.specs.declared.Stepped.{Stepped}
 use Rattle.unit.specs.declared.Outcome.{Outcome}
-use Rattle.unit.specs.Bridge.{stateOf, modelOf}
+use Rattle.tick.specs.Bridge.{stateOf}
+use Rattle.unit.specs.Bridge.{modelOf}
 
 -- the rules' event that an event of the code is
 abbrev pub eventOf : Event → rules.Event

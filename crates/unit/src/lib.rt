@@ -1,4 +1,4 @@
-// The unit (document 01): its whole state, and what each event does to it.
+// The unit (document 01): its whole state, and what each event gives: a number, and the state after it.
 // Each contract is an equation with a rule of crates/rules/specs through specs/Bridge.antt; the rule is named above the function.
 ghost use mathlib.Core.Path.{_≡_};
 ghost use mathlib.Core.Bool.{true};
@@ -6,171 +6,21 @@ ghost use mathlib.Core.List.{List};
 ghost use lib.Dec.{leb};
 ghost use lib.IntN.{ℤ, natAbs};
 ghost use lib.ListN.{length};
-ghost use Rattle.rules.specs.Words.{if_then_else_};
 ghost use Rattle.rules.specs.Tick as rules;
-ghost use Rattle.rules.specs.Tick.{inputsAfter, loopAfter, steps1to4};
 ghost use Rattle.rules.specs.Registers as map;
-ghost use Rattle.rules.specs.Registers.{inMap, written, settingsFrom};
+ghost use Rattle.rules.specs.Registers.{inMap};
 ghost use Rattle.rules.specs.History.{commanded};
 ghost use Rattle.rules.specs.Sheet.{signedByte};
 ghost use Rattle.rules.specs.Events as events;
 ghost use Rattle.rules.specs.Events.{sampleLimit};
-ghost use Rattle.rules.specs.Run.{afterMeasurement, afterHit, afterWrite, outcome};
-ghost use Rattle.monitor.specs.Bridge.{inputsOf};
+ghost use Rattle.rules.specs.Run.{afterWrite, outcome};
 ghost use Rattle.history.specs.Bridge.{historyOf, pushed};
-ghost use Rattle.pll.specs.Bridge.{loopOf};
-ghost use Rattle.unit.specs.Bridge.{stateOf, Changes, Steps, Ticks, withSettings, withHistory, modelOf};
+ghost use Rattle.tick.specs.Bridge.{stateOf};
+ghost use Rattle.unit.specs.Bridge.{withHistory, modelOf};
 ghost use Rattle.unit.specs.Events.{eventOf, steppedOf, outcomeOf};
-use arith::both;
 use arith::one_to_eight;
 use history::History;
-use history::Tally;
-use monitor::Monitors;
-use pll::Loop;
-use selection::Choice;
-
-// What a tick changes, and the registers. The kept sums and the backup's are held beside it.
-#[repr(C)]
-pub struct Core {
-    pub monitors: Monitors,
-    pub tally: Tally,
-    pub choice: Choice,
-    pub holding: u32,
-    pub pll: Loop,
-    pub regs: [u8; 27],
-}
-
-// What a tick gives: the core, whether a block is done, and if so its sum, which is to be pushed.
-#[repr(C)]
-pub struct Ticked {
-    pub core: Core,
-    pub done: bool,
-    pub sum: i64,
-}
-
-// ---- a tick
-
-// The rule `loopAfter`, step 3: "Only if a reference 1 to 8 is selected when the tick begins."
-fn loop_after(lock: bool, k: Core) -> Loop
-    ensures { λ r. ⌜ ((sums backup : List ℤ) → loopOf r ≡ loopAfter lock (stateOf k sums backup)) ⌝ }
-{
-    let p = k.pll;
-    let tracked = one_to_eight(k.choice.selected);
-    if tracked {
-        return pll::looped(lock, p);
-    }
-    p
-}
-
-// The rule `inputsAfter`: the monitors after steps 1 to 3.
-fn inputs_after(mask: u8, lock: bool, k: Core) -> Monitors
-    ensures { λ r. ⌜ ((sums backup : List ℤ) → inputsOf r ≡ inputsAfter mask lock (stateOf k sums backup)) ⌝ }
-{
-    let m = monitor::watched(k.monitors, mask);
-    let due = both(
-        one_to_eight(k.choice.selected),
-        pll::alarm_due(loop_after(lock, k)),
-    );
-    if due {
-        return monitor::alarm(m, k.choice.selected);
-    }
-    m
-}
-
-// The rule `steps1to4`.
-fn steps_1_to_4(mask: u8, lock: bool, k: Core) -> Core
-    ensures { λ r. ⌜ Steps k r (steps1to4 mask lock) ⌝ }
-{
-    let regs = k.regs;
-    let tally = k.tally;
-    let old = k.choice;
-    let m = inputs_after(mask, lock, k);
-    let c = selection::chosen(m, regs, old);
-    let p = pll::steered(
-        registers::is_automatic(regs),
-        registers::op_mode(regs),
-        history::is_ready(tally),
-        k.choice.selected,
-        c.selected,
-        loop_after(lock, k),
-    );
-    let holding = pll::holding_after(k.pll.mode, p.mode, k.holding);
-    Core {
-        monitors: m,
-        tally: tally,
-        choice: c,
-        holding: holding,
-        pll: p,
-        regs: regs,
-    }
-}
-
-// The rule `ticked`: the five steps of a tick.
-pub fn tick(mask: u8, lock: bool, x: i32, k: Core) -> Ticked
-    ensures { λ r. ⌜ Ticks k r (rules.ticked mask lock x) ⌝ }
-{
-    let mut next = steps_1_to_4(mask, lock, k);
-    let regs = next.regs;
-    let u = history::recorded(
-        registers::policy(regs),
-        next.choice.selected,
-        pll::is_locked(next.pll.mode),
-        x,
-        next.tally,
-    );
-    let t = u.tally;
-    next.tally = t;
-    Ticked {
-        core: next,
-        done: u.done,
-        sum: u.sum,
-    }
-}
-
-// ---- the other events
-
-// A measurement of input i: the rule `afterMeasurement`.
-pub fn measurement(i: u8, offset: u8, k: Core) -> Core
-    ensures { λ r. ⌜ Changes k r (afterMeasurement i (signedByte offset)) ⌝ }
-{
-    let regs = k.regs;
-    let reject = registers::reject_limit(regs);
-    let qualification = registers::qualification_limit(regs);
-    let m = monitor::measure(k.monitors, i, offset, reject, qualification);
-    let mut next = k;
-    next.monitors = m;
-    next
-}
-
-// A Hit: the rule `afterHit`.
-pub fn hit(k: Core) -> Core
-    ensures { λ r. ⌜ Steps k r afterHit ⌝ }
-{
-    let regs = k.regs;
-    let m = monitor::unsoak(k.monitors, k.choice.selected);
-    let p = pll::loop_after_hit(history::is_ready(k.tally));
-    let none = selection::settled(0);
-    let t = history::open_emptied(k.tally);
-    Core {
-        monitors: m,
-        tally: t,
-        choice: none,
-        holding: 0,
-        pll: p,
-        regs: regs,
-    }
-}
-
-// The registers after a write of an address other than 0x26.
-fn set_register(a: u8, v: u8, k: Core) -> Core
-    ensures { λ r. ⌜ ((sums backup : List ℤ) → stateOf r sums backup ≡ withSettings (if inMap a then written a v (settingsFrom (k .regs)) else settingsFrom (k .regs)) (stateOf k sums backup)) ⌝ }
-{
-    let regs = k.regs;
-    let changed = registers::written(regs, a, v);
-    let mut next = k;
-    next.regs = changed;
-    next
-}
+use tick::Core;
 
 // ---- an event, with the sums lent
 
@@ -205,7 +55,7 @@ fn push_sum(sums: &mut [i64; 64], x: i64)
 fn tick_and_push(mask: u8, lock: bool, x: i32, k: Core, sums: &mut [i64; 64]) -> Core
     ensures { λ r. ⌜ ((backup : List ℤ) → length (now (sums .entry)) ≡ 64 → stateOf r (now (sums .exit)) backup ≡ rules.ticked mask lock x (stateOf k (now (sums .entry)) backup)) ⌝ }
 {
-    let t = tick(mask, lock, x, k);
+    let t = tick::tick(mask, lock, x, k);
     if t.done {
         push_sum(sums, t.sum);
         return t.core;
@@ -272,7 +122,7 @@ fn on_measurement(i: u8, offset: u8, k: Core) -> Stepped
 {
     let ok = one_to_eight(i);
     if ok {
-        let next = measurement(i, offset, k);
+        let next = tick::measurement(i, offset, k);
         return Stepped {
             refusal: 0,
             core: next,
@@ -290,7 +140,7 @@ fn on_hit(k: Core) -> Stepped
 {
     let ok = one_to_eight(k.choice.selected);
     if ok {
-        let next = hit(k);
+        let next = tick::hit(k);
         return Stepped {
             refusal: 0,
             core: next,
@@ -309,7 +159,7 @@ fn write_accepted(a: u8, v: u8, k: Core, sums: &mut [i64; 64], backup: &mut [i64
     if a == 0x26 {
         return command(v, k, sums, backup);
     }
-    set_register(a, v, k)
+    tick::set_register(a, v, k)
 }
 
 // A write, or the first of refusals 1, 2, 3, 4 and 8 that fits.
@@ -318,7 +168,7 @@ fn on_write(a: u8, v: u8, k: Core, sums: &mut [i64; 64], backup: &mut [i64; 64])
 {
     let regs = k.regs;
     let tally = k.tally;
-    let number = registers::write_refusal(
+    let number = writes::write_refusal(
         regs,
         a,
         v,

@@ -3,7 +3,7 @@ use lib.ListN.{length-set}
 use native.Mathlib.Omega.{arith}
 use borrow.Author.Needs.{needs}
 use Rattle.rules.specs.Reading.{qualifiedMask}
-use Rattle.unit.specs.Bridge.{stateOf}
+use Rattle.tick.specs.Bridge.{stateOf}
 use Rattle.sheet.proofs.Parts.{four}
 use Rattle.sheet.proofs.Records.{record-is}
 use Rattle.sheet.proofs.put_record.Statement.{statement}

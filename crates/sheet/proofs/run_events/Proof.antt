@@ -7,7 +7,7 @@ use lib.ListN.{drop, length-drop}
 use borrow.Author.Needs.{needs}
 use Rattle.rules.specs.Sheet as rules
 use Rattle.rules.specs.Sheet.{bad, decode, eventsOf, records}
-use Rattle.unit.specs.Bridge.{stateOf}
+use Rattle.tick.specs.Bridge.{stateOf}
 use Rattle.fields.specs.Bridge.{decodedOf}
 use Rattle.sheet.proofs.Parts.{part-all}
 use Rattle.sheet.proofs.Steps.{Going, going-start, going-put, going-done, events-more, events-stop}

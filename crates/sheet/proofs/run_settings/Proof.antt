@@ -8,7 +8,7 @@ use borrow.Author.Needs.{needs}
 use Rattle.rules.specs.Run as rules
 use Rattle.rules.specs.Run.{run, outcome}
 use Rattle.rules.specs.Sheet.{settingsOf, records}
-use Rattle.unit.specs.Bridge.{stateOf}
+use Rattle.tick.specs.Bridge.{stateOf}
 use Rattle.sheet.proofs.Parts.{part-all}
 use Rattle.sheet.proofs.Steps.{Going, going-start, going-put, going-done, settings-more}
 use Rattle.sheet.proofs.run_settings.Statement.{statement}

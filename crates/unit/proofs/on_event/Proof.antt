@@ -4,7 +4,7 @@ use lib.IntN.{ℤ}
 use borrow.Author.Needs.{needs}
 use Rattle.rules.specs.Events.{tick}
 use Rattle.rules.specs.Run.{outcome}
-use Rattle.unit.specs.Bridge.{stateOf}
+use Rattle.tick.specs.Bridge.{stateOf}
 use Rattle.unit.proofs.on_event.Statement.{statement}
 use denote.Ref.{now}
 use mir.Syntax.{w32}

@@ -6,7 +6,7 @@ use borrow.Author.Needs.{needs}
 use Rattle.rules.specs.Refusals.{refusal}
 use Rattle.rules.specs.Run.{effect}
 use Rattle.rules.specs.Sheet.{signedByte}
-use Rattle.unit.specs.Bridge.{stateOf}
+use Rattle.tick.specs.Bridge.{stateOf}
 use Rattle.unit.proofs.Outcomes.{accepted-outcome, refused-outcome}
 use Rattle.unit.proofs.on_measurement.Statement.{statement}
 use Rattle.rules.specs.Events as events

@@ -9,7 +9,7 @@ use Rattle.rules.specs.Events.{sampleLimit}
 use Rattle.rules.specs.Refusals.{refusal}
 use Rattle.rules.specs.Run.{effect}
 use Rattle.rules.specs.Tick.{ticked}
-use Rattle.unit.specs.Bridge.{stateOf}
+use Rattle.tick.specs.Bridge.{stateOf}
 use Rattle.unit.proofs.Outcomes.{accepted-outcome, refused-outcome}
 use Rattle.unit.proofs.on_tick.Statement.{statement}
 use denote.Ref.{now}

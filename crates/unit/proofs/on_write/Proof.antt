@@ -7,8 +7,8 @@ use Rattle.rules.specs.Refusals.{writeRefusal, refusal}
 use Rattle.rules.specs.Registers.{settingsFrom}
 use Rattle.rules.specs.Run.{effect}
 use Rattle.rules.specs.State.{Ready}
-use Rattle.unit.specs.Bridge.{stateOf}
-use Rattle.registers.proofs.Writes.{accepted-in-map}
+use Rattle.tick.specs.Bridge.{stateOf}
+use Rattle.writes.proofs.Writes.{accepted-in-map}
 use Rattle.unit.proofs.Outcomes.{accepted-outcome, refused-outcome}
 use Rattle.unit.proofs.on_write.Statement.{statement}
 use denote.Ref.{now}

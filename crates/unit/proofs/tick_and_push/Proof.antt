@@ -8,7 +8,7 @@ use Rattle.rules.specs.Words.{if_then_else_}
 use Rattle.rules.specs.Tick.{ticked}
 use Rattle.history.specs.Bridge.{pushed}
 use Rattle.history.proofs.Signed.{stored}
-use Rattle.unit.specs.Bridge.{stateOf, sumsAfter}
+use Rattle.tick.specs.Bridge.{stateOf, sumsAfter}
 use Rattle.unit.proofs.tick_and_push.Statement.{statement}
 use denote.Ref.{now}
 use mir.Facts.{toZ-ofZ}

@@ -5,7 +5,7 @@ use borrow.Author.Tests.{eq-eqb, ne-eqb}
 use Rattle.rules.specs.Words.{if_then_else_}
 use Rattle.rules.specs.Registers.{written, settingsFrom}
 use Rattle.rules.specs.Run.{afterWrite}
-use Rattle.unit.specs.Bridge.{stateOf, withSettings}
+use Rattle.tick.specs.Bridge.{stateOf, withSettings}
 use Rattle.unit.proofs.write_accepted.Statement.{statement}
 use denote.Ref.{now}
 use Rattle.unit.proofs.write_accepted.Tie as tie

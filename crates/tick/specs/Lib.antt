@@ -1,0 +1,2 @@
+-- What the contracts of the core cite.
+pub mod Bridge
