@@ -97,7 +97,7 @@ fn shown(u: Unit, a: u8) -> u8
         return monitor::qualified_mask(u.core.monitors);
     }
     if a == 0x47 {
-        return selection::available_mask(u.core.monitors, regs);
+        return candidates::available_mask(u.core.monitors, regs);
     }
     if a == 0x48 {
         return state_byte(u.core);
@@ -117,7 +117,7 @@ fn shown(u: Unit, a: u8) -> u8
     if a == 0x4d {
         return (value_bits(u) / 16_777_216 % 256) as u8;
     }
-    selection::available_count(u.core.monitors, regs)
+    candidates::available_count(u.core.monitors, regs)
 }
 
 // A register of the map: the rule `content`.

@@ -1,3 +1,2 @@
 -- What the contracts of the selection cite.
 pub mod Bridge
-pub mod Keys

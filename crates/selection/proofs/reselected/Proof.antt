@@ -1,9 +1,11 @@
 -- The automatic choice: an arm of the rule for each return.
-use mathlib.Core.Path.{ap, _∙_}
+use mathlib.Core.Path.{_≡_, ap, sym, _∙_}
+use mathlib.Core.Bool.{true, false}
 use borrow.Author.Needs.{needs}
 use borrow.Author.Tests.{eq-eqb, ne-eqb}
 use Rattle.rules.specs.Selection.{reverted, reselected}
-use Rattle.rules.specs.Settings.{delayTicks}
+use Rattle.rules.specs.Registers.{settingsFrom}
+use Rattle.rules.specs.Settings.{delayTicks, revertive}
 use Rattle.selection.specs.Bridge.{choiceOf}
 use Rattle.selection.proofs.reselected.Statement.{statement}
 use Rattle.selection.proofs.reselected.Tie as tie
@@ -17,13 +19,16 @@ returns-2 : tie.Need-returns-2
 unfolding reselected
 returns-2 c =
     let a = c .before .before .before .before .before .before .before .before .before .args in
-    rw (← c .before .before .before .before .before .before .before .before .is-candidate .ensures, c .before .before .before .before .before .before .before .if1 .taken, ne-eqb _ _ (c .before .before .before .before .before .if2 .left), ← c .before .before .before .before .is-revertive .ensures, c .before .before .before .if3 .taken)
+    let reverts : revertive (settingsFrom (a .regs)) (a .c .selected) ≡ true = sym (c .before .before .before .before .is-revertive .ensures) ∙ c .before .before .before .if3 .taken in
+    rw (← c .before .before .before .before .before .before .before .before .is-candidate .ensures, c .before .before .before .before .before .before .before .if1 .taken, ne-eqb _ _ (c .before .before .before .before .before .if2 .left), reverts)
     (c .reverted .ensures ∙ ap (λ n. reverted n (a .b) (choiceOf (a .c))) (c .before .delay-ticks .ensures ∙ ap delayTicks (c .before .before .setting .ensures)))
 
 returns-3 : tie.Need-returns-3
 unfolding reselected
 returns-3 c =
-    rw (← c .before .before .before .before .before .before .is-candidate .ensures, c .before .before .before .before .before .if1 .taken, ne-eqb _ _ (c .before .before .before .if2 .left), ← c .before .before .is-revertive .ensures, c .before .if3 .left)
+    let a = c .before .before .before .before .before .before .before .args in
+    let stays : revertive (settingsFrom (a .regs)) (a .c .selected) ≡ false = sym (c .before .before .is-revertive .ensures) ∙ c .before .if3 .left in
+    rw (← c .before .before .before .before .before .before .is-candidate .ensures, c .before .before .before .before .before .if1 .taken, ne-eqb _ _ (c .before .before .before .if2 .left), stays)
     (c .settled2 .ensures)
 
 returns-4 : tie.Need-returns-4

@@ -9,7 +9,7 @@ use borrow.Author.Tests.{eqb-true, eqb-false, ltb-true, ltb-false}
 use Rattle.rules.specs.Words.{if_then_else_}
 use Rattle.rules.specs.Settings.{Settings, priority, ahead}
 use Rattle.rules.specs.Selection.{Inputs, candidate, bestUpTo, best}
-use Rattle.selection.specs.Keys.{noKey, keyOf, leastKey}
+use Rattle.candidates.specs.Keys.{noKey, keyOf, leastKey}
 
 -- two keys are taken in one after the other
 pub in-turn : (a b rest : ℕ) → min (min a b) rest ≡ min b (min a rest)

@@ -1,4 +1,4 @@
--- The proofs of the selection.
+-- The proofs of the candidates.
 pub mod Keys
 pub mod Candidates
 pub mod Ones

@@ -12,8 +12,8 @@ use Rattle.rules.specs.Selection.{available}
 use Rattle.rules.specs.Settings.{usable}
 use Rattle.rules.specs.Words.{bit}
 use Rattle.monitor.specs.Bridge.{inputsOf}
-use Rattle.selection.proofs.available_mask.Statement.{statement}
-use Rattle.selection.proofs.available_mask.Tie as tie
+use Rattle.candidates.proofs.available_mask.Statement.{statement}
+use Rattle.candidates.proofs.available_mask.Tie as tie
 
 returns : tie.Need-returns
 unfolding maskUpTo available usable bit qualified inputsOf settingsFrom place

@@ -8,10 +8,10 @@ use Rattle.rules.specs.Selection.{available, candidate}
 use Rattle.rules.specs.Settings.{usable, priority}
 use Rattle.rules.specs.Words.{bit}
 use Rattle.monitor.specs.Bridge.{inputsOf}
-use Rattle.selection.specs.Keys.{keyOf, leastKey}
-use Rattle.selection.proofs.Keys.{four-more, best-key}
-use Rattle.selection.proofs.best_of.Statement.{statement}
-use Rattle.selection.proofs.best_of.Tie as tie
+use Rattle.candidates.specs.Keys.{keyOf, leastKey}
+use Rattle.candidates.proofs.Keys.{four-more, best-key}
+use Rattle.candidates.proofs.best_of.Statement.{statement}
+use Rattle.candidates.proofs.best_of.Tie as tie
 
 returns : tie.Need-returns
 unfolding keyOf leastKey candidate available usable priority bit qualified inputsOf settingsFrom place

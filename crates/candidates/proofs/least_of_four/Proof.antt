@@ -2,9 +2,9 @@
 use Prim.Native.Nat.{min}
 use mathlib.Core.Path.{ap, _∙_}
 use borrow.Author.Needs.{needs}
-use Rattle.selection.proofs.Keys.{in-turn}
-use Rattle.selection.proofs.least_of_four.Statement.{statement}
-use Rattle.selection.proofs.least_of_four.Tie as tie
+use Rattle.candidates.proofs.Keys.{in-turn}
+use Rattle.candidates.proofs.least_of_four.Statement.{statement}
+use Rattle.candidates.proofs.least_of_four.Tie as tie
 
 returns : tie.Need-returns
 returns c =

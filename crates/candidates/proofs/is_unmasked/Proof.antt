@@ -2,8 +2,8 @@
 use borrow.Author.Needs.{needs}
 use borrow.Author.Tests.{le-leb, lt-leb}
 use Rattle.rules.specs.Words.{bit}
-use Rattle.selection.proofs.is_unmasked.Statement.{statement}
-use Rattle.selection.proofs.is_unmasked.Tie as tie
+use Rattle.candidates.proofs.is_unmasked.Statement.{statement}
+use Rattle.candidates.proofs.is_unmasked.Tie as tie
 
 returns : tie.Need-returns
 returns c = rw (lt-leb _ _ (c .if1 .taken))

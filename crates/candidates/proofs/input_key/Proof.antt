@@ -3,9 +3,9 @@ use Prim.Native.Nat.{_+_, _*_}
 use mathlib.Core.Path.{_∙_}
 use borrow.Author.Needs.{needs}
 use Rattle.rules.specs.Words.{if_then_else_}
-use Rattle.selection.specs.Keys.{noKey}
-use Rattle.selection.proofs.input_key.Statement.{statement}
-use Rattle.selection.proofs.input_key.Tie as tie
+use Rattle.candidates.specs.Keys.{noKey}
+use Rattle.candidates.proofs.input_key.Statement.{statement}
+use Rattle.candidates.proofs.input_key.Tie as tie
 
 returns : tie.Need-returns
 returns c =

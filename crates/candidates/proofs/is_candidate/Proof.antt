@@ -11,9 +11,9 @@ use Rattle.rules.specs.Selection.{input, available, candidate}
 use Rattle.rules.specs.Settings.{usable}
 use Rattle.rules.specs.Words.{bit, bitOf, isInput}
 use Rattle.monitor.specs.Bridge.{inputsOf}
-use Rattle.selection.proofs.Candidates.{and-again}
-use Rattle.selection.proofs.is_candidate.Statement.{statement}
-use Rattle.selection.proofs.is_candidate.Tie as tie
+use Rattle.candidates.proofs.Candidates.{and-again}
+use Rattle.candidates.proofs.is_candidate.Statement.{statement}
+use Rattle.candidates.proofs.is_candidate.Tie as tie
 
 returns : tie.Need-returns
 unfolding candidate usable bit

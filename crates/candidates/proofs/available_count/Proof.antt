@@ -6,9 +6,9 @@ use borrow.Author.Needs.{needs}
 use Rattle.rules.specs.Registers.{settingsFrom}
 use Rattle.rules.specs.Selection.{available}
 use Rattle.monitor.specs.Bridge.{inputsOf}
-use Rattle.selection.proofs.Ones.{ones-mask}
-use Rattle.selection.proofs.available_count.Statement.{statement}
-use Rattle.selection.proofs.available_count.Tie as tie
+use Rattle.candidates.proofs.Ones.{ones-mask}
+use Rattle.candidates.proofs.available_count.Statement.{statement}
+use Rattle.candidates.proofs.available_count.Tie as tie
 
 cast-result : tie.Need-cast-result
 cast-result c = omega (arith, ones-le 8 (c .available-mask .result) (search needs))

@@ -1,0 +1,2 @@
+-- What the candidates' contracts cite.
+pub mod Keys
