@@ -1,4 +1,4 @@
--- The proofs of the candidates.
+-- Laws of keys, of tests and of masks, which the functions' proofs cite.
 pub mod Keys
 pub mod Candidates
 pub mod Ones

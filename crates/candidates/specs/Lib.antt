@@ -1,2 +1,2 @@
--- What the candidates' contracts cite.
+-- What the contracts of the candidates cite.
 pub mod Keys

@@ -9,16 +9,16 @@ ghost use Rattle.rules.specs.Monitors.{fullSoak};
 ghost use Rattle.rules.specs.Selection.{available, candidate, best};
 ghost use Rattle.rules.specs.Registers.{settingsFrom};
 ghost use Rattle.rules.specs.Reading.{maskUpTo, countUpTo};
-ghost use Rattle.monitor.specs.Bridge.{inputsOf};
+ghost use Rattle.inputs.specs.Bridge.{inputsOf};
 ghost use Rattle.candidates.specs.Keys.{noKey};
 use arith::both;
 use arith::either;
 use arith::least;
 use arith::mask_of;
 use arith::wide16;
-use monitor::FULL_SOAK;
-use monitor::Monitors;
-use monitor::qualified_at;
+use inputs::FULL_SOAK;
+use inputs::Monitors;
+use inputs::qualified_at;
 use registers::setting;
 
 // Above every key; its number is 0.

@@ -94,7 +94,7 @@ fn shown(u: Unit, a: u8) -> u8
         return hours(u.core);
     }
     if a == 0x46 {
-        return monitor::qualified_mask(u.core.monitors);
+        return inputs::qualified_mask(u.core.monitors);
     }
     if a == 0x47 {
         return candidates::available_mask(u.core.monitors, regs);

@@ -155,7 +155,7 @@ fn put_record(out: &mut [u8], refusal: u8, k: Core)
 {
     let status = readout::status_byte(k);
     let state = readout::state_byte(k);
-    let qualified = monitor::qualified_mask(k.monitors);
+    let qualified = inputs::qualified_mask(k.monitors);
     out[0] = refusal;
     out[1] = state;
     out[2] = qualified;

@@ -8,7 +8,7 @@ use Rattle.rules.specs.Words.{if_then_else_}
 use Rattle.rules.specs.Settings.{Settings}
 use Rattle.rules.specs.State.{State}
 use Rattle.rules.specs.Registers.{settingsFrom}
-use Rattle.monitor.specs.Bridge.{inputsOf}
+use Rattle.inputs.specs.Bridge.{inputsOf}
 use Rattle.pll.specs.Bridge.{loopOf}
 use Rattle.selection.specs.Bridge.{choiceOf}
 use Rattle.history.specs.Bridge.{historyOf, pushed}

@@ -9,13 +9,13 @@ ghost use Rattle.rules.specs.Tick.{inputsAfter, loopAfter, steps1to4};
 ghost use Rattle.rules.specs.Registers.{inMap, written, settingsFrom};
 ghost use Rattle.rules.specs.Sheet.{signedByte};
 ghost use Rattle.rules.specs.Run.{afterMeasurement, afterHit};
-ghost use Rattle.monitor.specs.Bridge.{inputsOf};
+ghost use Rattle.inputs.specs.Bridge.{inputsOf};
 ghost use Rattle.pll.specs.Bridge.{loopOf};
 ghost use Rattle.tick.specs.Bridge.{stateOf, Changes, Steps, Ticks, withSettings};
 use arith::both;
 use arith::one_to_eight;
 use history::Tally;
-use monitor::Monitors;
+use inputs::Monitors;
 use pll::Loop;
 use selection::Choice;
 
@@ -62,7 +62,7 @@ fn inputs_after(mask: u8, lock: bool, k: Core) -> Monitors
         pll::alarm_due(loop_after(lock, k)),
     );
     if due {
-        return monitor::alarm(m, k.choice.selected);
+        return inputs::alarm(m, k.choice.selected);
     }
     m
 }
@@ -126,7 +126,7 @@ pub fn measurement(i: u8, offset: u8, k: Core) -> Core
     let regs = k.regs;
     let reject = registers::setting(regs, 0x44);
     let qualification = registers::setting(regs, 0x45);
-    let m = monitor::measure(k.monitors, i, offset, reject, qualification);
+    let m = inputs::measure(k.monitors, i, offset, reject, qualification);
     let mut next = k;
     next.monitors = m;
     next
@@ -137,7 +137,7 @@ pub fn hit(k: Core) -> Core
     ensures { λ r. ⌜ Steps k r afterHit ⌝ }
 {
     let regs = k.regs;
-    let m = monitor::unsoak(k.monitors, k.choice.selected);
+    let m = inputs::unsoak(k.monitors, k.choice.selected);
     let p = pll::loop_after_hit(history::is_ready(k.tally));
     let none = selection::settled(0);
     let t = history::open_emptied(k.tally);

@@ -260,7 +260,7 @@ pub fn fresh() -> Unit
     let backup = h.backup;
     let empty = h.tally;
     let regs = registers::fresh_registers();
-    let m = monitor::fresh_monitors();
+    let m = inputs::fresh_monitors();
     let choice = selection::settled(0);
     let p = pll::fresh_loop();
     let core = Core {

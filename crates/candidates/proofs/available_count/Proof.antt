@@ -5,7 +5,7 @@ use lib.Count.{ones, ones-le}
 use borrow.Author.Needs.{needs}
 use Rattle.rules.specs.Registers.{settingsFrom}
 use Rattle.rules.specs.Selection.{available}
-use Rattle.monitor.specs.Bridge.{inputsOf}
+use Rattle.inputs.specs.Bridge.{inputsOf}
 use Rattle.candidates.proofs.Ones.{ones-mask}
 use Rattle.candidates.proofs.available_count.Statement.{statement}
 use Rattle.candidates.proofs.available_count.Tie as tie

@@ -11,7 +11,7 @@ use Rattle.rules.specs.Registers.{settingsFrom, place}
 use Rattle.rules.specs.Selection.{available}
 use Rattle.rules.specs.Settings.{usable}
 use Rattle.rules.specs.Words.{bit}
-use Rattle.monitor.specs.Bridge.{inputsOf}
+use Rattle.inputs.specs.Bridge.{inputsOf}
 use Rattle.candidates.proofs.available_mask.Statement.{statement}
 use Rattle.candidates.proofs.available_mask.Tie as tie
 

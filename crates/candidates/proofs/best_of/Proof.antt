@@ -7,7 +7,7 @@ use Rattle.rules.specs.Registers.{settingsFrom, place}
 use Rattle.rules.specs.Selection.{available, candidate}
 use Rattle.rules.specs.Settings.{usable, priority}
 use Rattle.rules.specs.Words.{bit}
-use Rattle.monitor.specs.Bridge.{inputsOf}
+use Rattle.inputs.specs.Bridge.{inputsOf}
 use Rattle.candidates.specs.Keys.{keyOf, leastKey}
 use Rattle.candidates.proofs.Keys.{four-more, best-key}
 use Rattle.candidates.proofs.best_of.Statement.{statement}

@@ -10,7 +10,7 @@ use Rattle.rules.specs.Registers.{settingsFrom}
 use Rattle.rules.specs.Selection.{input, available, candidate}
 use Rattle.rules.specs.Settings.{usable}
 use Rattle.rules.specs.Words.{bit, bitOf, isInput}
-use Rattle.monitor.specs.Bridge.{inputsOf}
+use Rattle.inputs.specs.Bridge.{inputsOf}
 use Rattle.candidates.proofs.Candidates.{and-again}
 use Rattle.candidates.proofs.is_candidate.Statement.{statement}
 use Rattle.candidates.proofs.is_candidate.Tie as tie

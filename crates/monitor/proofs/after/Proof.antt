@@ -1,7 +1,7 @@
 -- Each number is that of its rule.
 use mathlib.Core.Path.{_∙_}
 use Rattle.rules.specs.Monitors.{bucket, alarmAfter, activityAfter, good, soakAfter, monitored}
-use Rattle.monitor.specs.Bridge.{isSet}
+use Rattle.inputs.specs.Bridge.{isSet}
 use Rattle.monitor.proofs.after.Statement.{statement}
 use Rattle.monitor.proofs.after.Tie as tie
 

@@ -2,7 +2,7 @@
 use lib.Dec.{leb}
 use Rattle.rules.specs.Monitors.{bucket, alarmAfter}
 use Rattle.arith.proofs.Laws.{if-map-2}
-use Rattle.monitor.specs.Bridge.{isSet}
+use Rattle.inputs.specs.Bridge.{isSet}
 use Rattle.monitor.proofs.alarm_of.Statement.{statement}
 use Rattle.monitor.proofs.alarm_of.Tie as tie
 

@@ -1,6 +1,6 @@
 -- Each list has its eight numbers in order.
 use mathlib.Core.Path.{refl}
-use Rattle.monitor.specs.Bridge.{inputsOf}
+use Rattle.inputs.specs.Bridge.{inputsOf}
 use Rattle.monitor.proofs.gathered.Statement.{statement}
 use Rattle.monitor.proofs.gathered.Tie as tie
 

@@ -5,7 +5,7 @@ use mathlib.Core.List.{[], _∷_}
 use native.Mathlib.Omega.{arith}
 use Rattle.rules.specs.Selection.{eachFrom}
 use Rattle.rules.specs.Tick as Tick
-use Rattle.monitor.specs.Bridge.{inputsOf}
+use Rattle.inputs.specs.Bridge.{inputsOf}
 use Rattle.monitor.proofs.watched.Statement.{statement}
 use Rattle.monitor.proofs.watched.Tie as tie
 

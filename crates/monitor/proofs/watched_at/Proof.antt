@@ -3,8 +3,8 @@ use mathlib.Core.Path.{ap, _∙_}
 use borrow.Author.Needs.{needs}
 use Rattle.rules.specs.Words.{bit}
 use Rattle.rules.specs.Monitors.{bucket, monitored}
-use Rattle.monitor.specs.Bridge.{inputOf}
-use Rattle.monitor.specs.declared.Lane.{Lane}
+use Rattle.inputs.specs.Bridge.{inputOf}
+use Rattle.inputs.specs.declared.Lane.{Lane}
 use Rattle.monitor.proofs.watched_at.Statement.{statement}
 use Rattle.monitor.proofs.watched_at.Tie as tie
 

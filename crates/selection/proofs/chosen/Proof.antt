@@ -3,7 +3,7 @@ use mathlib.Core.Path.{ap, _∙_}
 use borrow.Author.Needs.{needs}
 use Rattle.rules.specs.Registers.{settingsFrom}
 use Rattle.rules.specs.Selection.{reselected, chosen}
-use Rattle.monitor.specs.Bridge.{inputsOf}
+use Rattle.inputs.specs.Bridge.{inputsOf}
 use Rattle.selection.specs.Bridge.{choiceOf}
 use Rattle.selection.proofs.chosen.Statement.{statement}
 use Rattle.selection.proofs.chosen.Tie as tie

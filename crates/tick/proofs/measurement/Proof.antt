@@ -7,7 +7,7 @@ use Rattle.rules.specs.Run.{afterMeasurement}
 use Rattle.rules.specs.Selection.{altered}
 use Rattle.rules.specs.Sheet.{signedByte}
 use Rattle.history.specs.Bridge.{historyOf}
-use Rattle.monitor.specs.Bridge.{inputsOf}
+use Rattle.inputs.specs.Bridge.{inputsOf}
 use Rattle.pll.specs.Bridge.{loopOf}
 use Rattle.selection.specs.Bridge.{choiceOf}
 use Rattle.tick.proofs.measurement.Statement.{statement}

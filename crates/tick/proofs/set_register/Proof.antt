@@ -1,7 +1,7 @@
 -- Only the settings change.
 use borrow.Author.Needs.{needs}
 use Rattle.history.specs.Bridge.{historyOf}
-use Rattle.monitor.specs.Bridge.{inputsOf}
+use Rattle.inputs.specs.Bridge.{inputsOf}
 use Rattle.pll.specs.Bridge.{loopOf}
 use Rattle.selection.specs.Bridge.{choiceOf}
 use Rattle.tick.proofs.set_register.Statement.{statement}

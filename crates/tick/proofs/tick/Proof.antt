@@ -6,7 +6,7 @@ use Rattle.rules.specs.Registers.{settingsFrom}
 use Rattle.rules.specs.Tick.{step5, ticked}
 use Rattle.rules.specs.Words.{if_then_else_}
 use Rattle.history.specs.Bridge.{historyOf, pushed}
-use Rattle.monitor.specs.Bridge.{inputsOf}
+use Rattle.inputs.specs.Bridge.{inputsOf}
 use Rattle.pll.specs.Bridge.{loopOf}
 use Rattle.selection.specs.Bridge.{choiceOf}
 use Rattle.history.proofs.Signed.{stored}

@@ -1,7 +1,7 @@
 -- A command changes the history alone.
 use borrow.Author.Needs.{needs}
 use Rattle.rules.specs.Registers.{settingsFrom}
-use Rattle.monitor.specs.Bridge.{inputsOf}
+use Rattle.inputs.specs.Bridge.{inputsOf}
 use Rattle.pll.specs.Bridge.{loopOf}
 use Rattle.selection.specs.Bridge.{choiceOf}
 use Rattle.unit.proofs.command.Statement.{statement}

@@ -1,0 +1,2 @@
+-- What the contracts of the inputs cite.
+pub mod Bridge
