@@ -1,3 +1,3 @@
 -- Laws that the proofs share.
-pub mod Signed
+pub mod Sums
 pub mod Kept

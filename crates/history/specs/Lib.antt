@@ -1,3 +1,2 @@
 -- From the code's structs to the rules.
-pub mod Signed
 pub mod Bridge

@@ -76,7 +76,7 @@ fn value_bits(u: Unit) -> u32
     if ready {
         let sums = u.sums;
         let backup = u.backup;
-        return history::twos(history::value(History {
+        return value::twos(value::value(History {
             tally: tally,
             sums: sums,
             backup: backup,

@@ -10,7 +10,7 @@ use mir.Syntax.{w64}
 use mir.Val.{toZ, ofZ}
 use mir.Facts.{toZ-ofZ}
 use borrow.Author.Needs.{needs}
-use Rattle.history.proofs.Signed.{stored}
+use Rattle.history.proofs.Sums.{stored}
 use Rattle.history.proofs.Kept.{shift-more}
 use Rattle.history.proofs.push.Statement.{statement}
 use Rattle.history.proofs.push.Tie as tie

@@ -13,7 +13,7 @@ use borrow.Author.Tests.{le-leb, lt-leb}
 use borrow.Author.Needs.{needs}
 use Rattle.rules.specs.History.{saturated, refilled, withBlocks, sampled}
 use Rattle.history.specs.Bridge.{keptOf, historyOf}
-use Rattle.history.proofs.Signed.{stored, saturated-again}
+use Rattle.history.proofs.Sums.{stored, saturated-again}
 use Rattle.history.proofs.Kept.{kept-push}
 use Rattle.history.proofs.sampled.Statement.{statement}
 use Rattle.history.proofs.sampled.Tie as tie

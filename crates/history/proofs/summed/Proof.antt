@@ -9,7 +9,7 @@ use mir.Facts.{toZ-ofZ, sfits-widen}
 use borrow.Author.Needs.{needs}
 use Rattle.rules.specs.History.{saturated}
 use Rattle.rules.proofs.Integers.{natAbs-+, saturated-le}
-use Rattle.history.proofs.Signed.{stored, small-fits}
+use Rattle.history.proofs.Sums.{stored, small-fits}
 use Rattle.history.proofs.summed.Statement.{statement}
 use Rattle.history.proofs.summed.Tie as tie
 

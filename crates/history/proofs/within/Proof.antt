@@ -1,7 +1,7 @@
 -- Each arm is a case of `saturated`: under the limits, over them, inside.
 use mathlib.Core.Path.{_∙_}
 use mir.Facts.{toZ-ofZ}
-use Rattle.history.proofs.Signed.{under, over, inside}
+use Rattle.history.proofs.Sums.{under, over, inside}
 use Rattle.history.proofs.within.Statement.{statement}
 use Rattle.history.proofs.within.Tie as tie
 

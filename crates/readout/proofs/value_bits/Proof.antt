@@ -2,7 +2,7 @@
 use mathlib.Core.Path.{_≡_, refl, ap, _∙_}
 use borrow.Author.Needs.{needs}
 use Rattle.rules.specs.Reading.{twos}
-use Rattle.history.proofs.Signed.{stored}
+use Rattle.history.proofs.Sums.{stored}
 use Rattle.readout.proofs.value_bits.Statement.{statement}
 use mir.Syntax.{w64}
 use mir.Val.{toZ, ofZ}

@@ -9,7 +9,7 @@ use Rattle.history.specs.Bridge.{historyOf, pushed}
 use Rattle.inputs.specs.Bridge.{inputsOf}
 use Rattle.pll.specs.Bridge.{loopOf}
 use Rattle.selection.specs.Bridge.{choiceOf}
-use Rattle.history.proofs.Signed.{stored}
+use Rattle.history.proofs.Sums.{stored}
 use Rattle.tick.proofs.tick.Statement.{statement}
 use mir.Facts.{toZ-ofZ}
 use mir.Syntax.{w64}

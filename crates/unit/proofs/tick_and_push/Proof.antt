@@ -7,7 +7,7 @@ use borrow.Author.Needs.{needs}
 use Rattle.rules.specs.Words.{if_then_else_}
 use Rattle.rules.specs.Tick.{ticked}
 use Rattle.history.specs.Bridge.{pushed}
-use Rattle.history.proofs.Signed.{stored}
+use Rattle.history.proofs.Sums.{stored}
 use Rattle.tick.specs.Bridge.{stateOf, sumsAfter}
 use Rattle.unit.proofs.tick_and_push.Statement.{statement}
 use denote.Ref.{now}

@@ -6,10 +6,11 @@ use lib.IntN.{ℤ}
 use lib.Signed.{shrZ}
 use mir.Facts.{toZ-ofZ}
 use borrow.Author.Needs.{needs}
-use Rattle.history.specs.Signed.{signed}
-use Rattle.history.proofs.Signed.{stored, signed-lt, shr-signed}
-use Rattle.history.proofs.floor_div.Statement.{statement}
-use Rattle.history.proofs.floor_div.Tie as tie
+use Rattle.value.specs.Signed.{signed}
+use Rattle.history.proofs.Sums.{stored}
+use Rattle.value.proofs.Signed.{signed-lt, shr-signed}
+use Rattle.value.proofs.floor_div.Statement.{statement}
+use Rattle.value.proofs.floor_div.Tie as tie
 
 joined-requires : tie.Need-joined-requires
 joined-requires c κs =

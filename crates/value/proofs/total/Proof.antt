@@ -11,11 +11,11 @@ use mir.Val.{SFits, toZ, ofZ}
 use mir.Facts.{toZ-ofZ}
 use borrow.Author.Needs.{needs}
 use Rattle.rules.specs.History.{saturated, sumOf}
 use Rattle.history.specs.Bridge.{keptOf}
-use Rattle.history.proofs.Signed.{stored, small-fits}
+use Rattle.history.proofs.Sums.{stored, small-fits}
 use Rattle.history.proofs.Kept.{kept-stop, sum-more, sum-le}
-use Rattle.history.proofs.total.Statement.{statement}
-use Rattle.history.proofs.total.Tie as tie
+use Rattle.value.proofs.total.Statement.{statement}
+use Rattle.value.proofs.total.Tie as tie
 
 abbrev Inv-loop : tie.InvT-loop
 Inv-loop count sums n s₀ i₀ s i = (i ≤ n) × (toZ w64 s ≡ sumOf (keptOf sums i))

@@ -2,8 +2,8 @@
 use mathlib.Core.Path.{sym}
 use native.Mathlib.Nat.{div-zero}
 use borrow.Author.Needs.{needs}
-use Rattle.history.proofs.quotient.Statement.{statement}
-use Rattle.history.proofs.quotient.Tie as tie
+use Rattle.value.proofs.quotient.Statement.{statement}
+use Rattle.value.proofs.quotient.Tie as tie
 
 returns : tie.Need-returns
 returns c = rw (c .if1 .taken) (sym (div-zero (c .before .args .m)))

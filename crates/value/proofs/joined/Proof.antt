@@ -5,9 +5,10 @@ use mir.Syntax.{w64}
 use mir.Val.{SFits, toZ, ofZ}
 use mir.Facts.{toZ-pos}
 use borrow.Author.Needs.{needs}
-use Rattle.history.proofs.Signed.{stored, flip-magnitude}
-use Rattle.history.proofs.joined.Statement.{statement}
-use Rattle.history.proofs.joined.Tie as tie
+use Rattle.history.proofs.Sums.{stored}
+use Rattle.value.proofs.Signed.{flip-magnitude}
+use Rattle.value.proofs.joined.Statement.{statement}
+use Rattle.value.proofs.joined.Tie as tie
 
 sub-result : tie.Need-sub-result
 sub-result c = subst (SFits w64) (sym (flip-magnitude (c .before .args .n) (c .before .pre))) (record { sfits = c .before .pre })

@@ -3,9 +3,9 @@ use mathlib.Core.Path.{ap, sym, _∙_}
 use mir.Facts.{toZ-ofZ}
 use borrow.Author.Needs.{needs}
 use Rattle.rules.specs.Reading.{twos}
-use Rattle.history.specs.Signed.{signed}
-use Rattle.history.proofs.twos.Statement.{statement}
-use Rattle.history.proofs.twos.Tie as tie
+use Rattle.value.specs.Signed.{signed}
+use Rattle.value.proofs.twos.Statement.{statement}
+use Rattle.value.proofs.twos.Tie as tie
 
 returns : tie.Need-returns
 unfolding twos

@@ -5,10 +5,10 @@ use lib.ListN.{length}
 use lib.Signed.{shrZ}
 use borrow.Author.Needs.{needs}
 use Rattle.rules.specs.History.{value}
-use Rattle.history.proofs.Signed.{stored}
+use Rattle.history.proofs.Sums.{stored}
 use Rattle.history.proofs.Kept.{kept-length}
-use Rattle.history.proofs.value.Statement.{statement}
-use Rattle.history.proofs.value.Tie as tie
+use Rattle.value.proofs.value.Statement.{statement}
+use Rattle.value.proofs.value.Tie as tie
 
 returns : tie.Need-returns
 unfolding value

@@ -3,9 +3,9 @@ use mathlib.Core.Path.{sym, subst}
 use native.Mathlib.Omega.{arith}
 use mir.Syntax.{w64}
 use mir.Val.{SFits}
-use Rattle.history.proofs.Signed.{below, above, flips, flips-back, stays}
-use Rattle.history.proofs.split.Statement.{statement}
-use Rattle.history.proofs.split.Tie as tie
+use Rattle.value.proofs.Signed.{below, above, flips, flips-back, stays}
+use Rattle.value.proofs.split.Statement.{statement}
+use Rattle.value.proofs.split.Tie as tie
 
 sub-t3 : tie.Need-sub-t3
 sub-t3 c = let s = c .before in subst (SFits w64) (sym (flips (s .args .z) (s .fits .z) (c .if1 .taken))) (record { sfits = s .fits .z .sfits })

@@ -1,0 +1,2 @@
+-- What the contracts of the value cite.
+pub mod Signed
