@@ -1,4 +1,3 @@
 -- The statements of specs/, proved by running the rules.
 pub mod Trials
 pub mod ExampleSheet
-pub mod Promise

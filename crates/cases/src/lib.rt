@@ -1,1 +1,1 @@
-// Document 01's worked cases, run over the rules by computation: statements in specs/, proofs in proofs/. There is no code here.
+// Document 01's worked cases, as tables computed from the rules: statements in specs/, proofs in proofs/. There is no code here.

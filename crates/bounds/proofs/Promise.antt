@@ -15,7 +15,7 @@ use Rattle.rules.specs.Service.{AllFair, acceptedTicks, Served}
 use Rattle.rules.specs.Registers.{fresh}
 use Rattle.rules.proofs.Promise.{promise}
 use Rattle.rules.proofs.Computing.{computing}
-use Rattle.cases.specs.Promise.{lead, moment, oneTick, ticks, AtTheMoment, Met, AllCounted, Kept, NotBettered, NotReadyBefore, Numbers}
+use Rattle.bounds.specs.Promise.{lead, moment, oneTick, ticks, AtTheMoment, Met, AllCounted, Kept, NotBettered, NotReadyBefore, Numbers}
 
 -- ---- the settings at the moment
 

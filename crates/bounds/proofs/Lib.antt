@@ -1,0 +1,2 @@
+-- The statements of specs/, proved.
+pub mod Promise

@@ -1,0 +1,2 @@
+-- The promise of service on one history, as statements.
+pub mod Promise
