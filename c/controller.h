@@ -1,4 +1,4 @@
-/* The reference controller of the eight-input timing unit, for a host in C (link libhost.a; for run sheets, libsheet.a).
+/* The reference controller of the eight-input timing unit, for a host in C (link libhost.a; for run sheets, librun.a).
  *
  * The host owns a unit's state. It makes one with unit_fresh, lends it to unit_event for each event and to unit_read for each read, and writes it by
  * nothing else. A tick is 128 ms. Document 01 says what each event does and what each register shows.

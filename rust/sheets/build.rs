@@ -1,8 +1,8 @@
-//! Links the real controller's run sheets, libsheet.a.
+//! Links the real controller's run sheets, librun.a.
 
 #[path = "../controller/library.rs"]
 mod library;
 
 fn main() {
-    library::link("sheet");
+    library::link("run");
 }

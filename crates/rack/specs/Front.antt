@@ -3,7 +3,7 @@ use Prim.Native.Nat.{ℕ}
 use mathlib.Core.Path.{_≡_}
 use mathlib.Core.List.{List}
 use lib.ListN.{length}
-use Rattle.text.specs.Text.{over}
+use Rattle.rules.specs.Sheet.{over}
 
 -- n is the text's length, and the list after is the one before with the text over its front
 pub record Front (text before : List ℕ) (n : ℕ) (after : List ℕ) : Type 0 where

@@ -13,7 +13,7 @@ fn print_sheet(sheet: &[u8], out: &mut [u8; 151000]) -> usize
     if number != 0 {
         return text::refused(number, out);
     }
-    let n = sheet::run_into(sheet, &mut records);
+    let n = run::run_into(sheet, &mut records);
     text::lines(&records[..n], out)
 }
 

@@ -151,6 +151,10 @@ records s (e ∷ es) = let o = outcome s e in recordOf o ++ records (o .state) e
 unfoldable pub front : List ℕ → ℕ → List ℕ
 front s room = if eqb (check s room) 0 then records fresh (sheetEvents s) else []
 
--- the lent output after the run: "bytes after it are unchanged"
+-- an output with f over its front: "bytes after it are unchanged"
+abbrev pub over : List ℕ → List ℕ → List ℕ
+over f output = f ++ drop (length f) output
+
+-- the lent output after the run
 unfoldable pub outputAfter : List ℕ → List ℕ → List ℕ
-outputAfter s output = let f = front s (length output) in f ++ drop (length f) output
+outputAfter s output = over (front s (length output)) output

@@ -1,8 +1,5 @@
--- The proofs of the run sheet.
+-- The proofs of the run sheet's bytes and its check.
 pub mod Signed
 pub mod Parts
-pub mod Records
 pub mod Steps
 pub mod Numbers
-pub mod Ran
-pub mod Service

@@ -1,29 +1,11 @@
--- Parts of lists from a place to the end, and what is left of a list whose part was lent.
-use Prim.Native.Nat.{ℕ, _+_, _-_, _≤_}
-use mathlib.Core.Path.{_≡_, refl}
-use mathlib.Core.List.{List, [], _∷_, _++_, append-assoc, append-nil}
+-- The part of a list from a place to the end.
+use Prim.Native.Nat.{ℕ, _-_}
+use mathlib.Core.Path.{_≡_}
+use mathlib.Core.List.{List}
 use native.Mathlib.Omega.{arith}
-use lib.ListN.{length, take, drop, set, length-drop, drop-of-length-le}
-use lib.Seq.{take-all, drop-drop}
-use Rattle.sheet.specs.Parts.{over}
+use lib.ListN.{length, take, drop, length-drop}
+use lib.Seq.{take-all}
 
 -- the part from a to the end is what drop gives
 pub part-all : (a : ℕ) (l : List ℕ) → take (length l - a) (drop a l) ≡ drop a l
 part-all a l = take-all (length l - a) (drop a l) (omega (arith, length-drop a l))
-
--- nothing lies behind it
-pub part-rest : (a : ℕ) (l : List ℕ) → drop (length l - a) (drop a l) ≡ []
-part-rest a l = drop-of-length-le (drop a l) {i = length l - a} (omega (arith, length-drop a l))
-
--- the whole after the part from a on was lent and came back as r over it
-pub came-back : (a : ℕ) (r l : List ℕ)
-    → take a l ++ (over r (take (length l - a) (drop a l)) ++ drop (length l - a) (drop a l)) ≡ (take a l ++ r) ++ drop (a + length r) l
-came-back a r l = simp (part-all, part-rest, append-nil, append-assoc, drop-drop)
-
--- the first four elements stored one after the other
-pub four : (a b c d : ℕ) (l : List ℕ) → 4 ≤ length l → set (set (set (set l 0 a) 1 b) 2 c) 3 d ≡ over (a ∷ b ∷ c ∷ d ∷ []) l
-four a b c d (w ∷ x ∷ y ∷ z ∷ l) h = refl
-four a b c d [] h = absurd (omega arith)
-four a b c d (w ∷ []) h = absurd (omega arith)
-four a b c d (w ∷ x ∷ []) h = absurd (omega arith)
-four a b c d (w ∷ x ∷ y ∷ []) h = absurd (omega arith)

@@ -6,7 +6,8 @@ use native.Mathlib.Nat.{add-zero, zero-add}
 use native.Mathlib.Omega.{arith}
 use lib.ListN.{length, drop, set, length-append}
 use lib.Seq.{sets, sets-eq}
-use Rattle.text.specs.Text.{Puts, over}
+use Rattle.rules.specs.Sheet.{over}
+use Rattle.text.specs.Text.{Puts}
 
 sets-append : (x y l : List ℕ) (at : ℕ) → sets l at (x ++ y) ≡ sets (sets l at x) (at + length x) y
 sets-append [] y l at = ap (λ n. sets l n y) (sym (add-zero at))

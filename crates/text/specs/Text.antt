@@ -2,7 +2,7 @@
 use Prim.Native.Nat.{ℕ, _+_, _/_, min}
 use mathlib.Core.Path.{_≡_}
 use mathlib.Core.List.{List, _++_}
-use lib.ListN.{length, drop}
+use lib.ListN.{length}
 use lib.Seq.{sets}
 use Rattle.rules.specs.Printout.{recordsWord, headLine, recordLines}
 
@@ -10,10 +10,6 @@ use Rattle.rules.specs.Printout.{recordsWord, headLine, recordLines}
 pub record Puts (text : List ℕ) (at : ℕ) (before : List ℕ) (next : ℕ) (after : List ℕ) : Type 0 where
   pub place : next ≡ at + length text
   pub stored : after ≡ sets before at text
-
--- the text in front, and the bytes after it unchanged
-abbrev pub over : List ℕ → List ℕ → List ℕ
-over text out = text ++ drop (length text) out
 
 -- Each record has 4 bytes. 8,383 is the most that a sheet gives: 256 settings and 8,127 events.
 unfoldable pub recordsText : List ℕ → List ℕ

@@ -7,7 +7,8 @@ ghost use Prim.Native.Nat.{_+_, _*_, _/_, _≤_, _<_, min};
 ghost use lib.ListN.{length, drop};
 ghost use Rattle.rules.specs.Printout as rules;
 ghost use Rattle.rules.specs.Printout.{blank, decimal, hexadecimal, refusedWord, headLine, recordLine};
-ghost use Rattle.text.specs.Text.{Puts, over, recordsText};
+ghost use Rattle.rules.specs.Sheet.{over};
+ghost use Rattle.text.specs.Text.{Puts, recordsText};
 use arith::wide32;
 
 // ---- parts of a line: each is put at a place of the array, and the place after it is returned

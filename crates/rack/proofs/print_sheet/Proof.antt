@@ -4,8 +4,8 @@ use mathlib.Core.List.{List}
 use borrow.Author.Needs.{needs}
 use Prim.Native.Nat.{ℕ}
 use lib.ListN.{length, replicate, length-replicate}
-use Rattle.rules.specs.Sheet.{check, front, outputAfter}
-use Rattle.text.specs.Text.{over, recordsText}
+use Rattle.rules.specs.Sheet.{check, front, over, outputAfter}
+use Rattle.text.specs.Text.{recordsText}
 use Rattle.rack.specs.Front.{Front}
 use Rattle.rack.proofs.Printed.{printed-refusal, printed-records, front-taken, front-within}
 use Rattle.rack.proofs.print_sheet.Statement.{statement}

@@ -24,14 +24,13 @@ abbrev μ-loop : tie.MeasureT-loop
 reads-at : (c : tie.After-read-event Inv-loop μ-loop) (d : rules.Decoded) → decodedOf (c .read-event .result) ≡ d
     → decode (drop (8 * c .before .before .before .loop .i) (now (c .before .before .before .before .before .args .part))) ≡ d
 reads-at c d h =
-    ap decode (sym (part-all (8 * c .before .before .before .loop .i) (now (c .before .before .before .before .before .args .part))))
-    ∙ sym (c .read-event .ensures) ∙ h
+    let i = c .before .before .before .loop .i in
+    let part = now (c .before .before .before .before .before .args .part) in
+    ap decode (sym (part-all (8 * i) part))
+    ∙ sym (c .read-event .ensures .0 (rw part-all (omega (arith, length-drop (8 * i) part)))) ∙ h
 
 loop-holds : tie.Need-loop-holds Inv-loop μ-loop
 loop-holds c = (search needs, ap (λ (k : ℕ). allEvents k (now (c .before .args .part))) (sub-zero (c .before .args .n)))
-
-read-event-requires : tie.Need-read-event-requires Inv-loop μ-loop
-read-event-requires c κs = rw part-all (omega (arith, length-drop (8 * c .before .before .loop .i) (now (c .before .before .before .before .args .part))))
 
 returns : tie.Need-returns Inv-loop μ-loop
 returns c =
@@ -64,7 +63,7 @@ events-good-spec =
     (omega arith)
     (omega arith)
     (omega arith)
-    read-event-requires
+    (search needs)
     (search needs)
     (search needs)
     returns

@@ -19,9 +19,9 @@ use Rattle.rules.specs.Run.{next, run, outcome}
 use Rattle.rules.specs.Sheet.{sheetEvents, check, recordOf, records, front}
 use Rattle.rules.proofs.Promise.{run-append, promise}
 use Rattle.rules.proofs.Sheets.{length-records}
-use Rattle.sheet.specs.Service.{byteOf, RecordsPromise}
-use Rattle.sheet.proofs.Records.{record-is}
-use Rattle.sheet.proofs.Ran.{records-append}
+use Rattle.run.specs.Service.{byteOf, RecordsPromise}
+use Rattle.run.proofs.Records.{record-is}
+use Rattle.run.proofs.Ran.{records-append}
 
 -- an element behind a list
 getD-behind : (l m : List ℕ) (n k : ℕ) → length l ≡ n → getD (l ++ m) (n + k) 0 ≡ getD m k 0

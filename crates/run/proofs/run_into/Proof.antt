@@ -5,19 +5,25 @@ use mathlib.Core.List.{List}
 use native.Mathlib.Omega.{arith}
 use lib.ListN.{length, length-drop}
 use borrow.Author.Needs.{needs}
-use Rattle.rules.specs.Sheet.{settingsCount, eventsAt, eventsCount, sheetEnd, recordCount, check, outputAfter}
+use Rattle.rules.specs.Sheet.{settingsCount, eventsAt, eventsCount, sheetEnd, recordCount, check, over, outputAfter}
 use Rattle.rules.proofs.Sheets.{outputs}
-use Rattle.sheet.specs.Parts.{over}
 use Rattle.sheet.proofs.Numbers.{runs}
 use Rattle.sheet.proofs.Parts.{part-all}
-use Rattle.sheet.proofs.Ran.{refused, all-written}
-use Rattle.sheet.proofs.run_into.Statement.{statement}
+use Rattle.run.proofs.Ran.{refused, all-written}
+use Rattle.run.proofs.run_into.Statement.{statement}
 use denote.Ref.{now}
-use Rattle.sheet.proofs.run_into.Tie as tie
+use Rattle.run.proofs.run_into.Tie as tie
 
 -- a sheet whose number is 0 will run
 zero : (c : tie.Else1) → check (now (c .before .before .before .before .args .sheet)) (length (now (c .before .before .before .before .args .out))) ≡ 0
 zero c = sym (c .before .check .ensures) ∙ c .if1 .left
+
+-- the counts are the sheet's
+counts : (c : tie.After-counts-of)
+    → let s = now (c .before .before .before .before .before .args .sheet) in
+    (c .counts-of .result .settings ≡ settingsCount s) × (c .counts-of .result .events ≡ eventsCount s)
+unfolding sheetEnd
+counts c = c .counts-of .ensures .0 (omega (arith, runs _ _ (zero (c .before)) .whole))
 
 -- what the counts of a sheet that will run say of its length, and of the output's
 record Sizes (settings events len room : ℕ) : Type 0 where
@@ -31,7 +37,7 @@ sizes : (c : tie.After-counts-of)
 unfolding sheetEnd eventsAt settingsCount eventsCount recordCount
 sizes c =
     let r = runs _ _ (zero (c .before)) in
-    let n = c .counts-of .ensures in
+    let n = counts c in
     record { whole = omega (arith, r .whole, n .0, n .1); fits = omega arith; room-for = omega (arith, r .fits, n .0, n .1) }
 
 returns : tie.Need-returns
@@ -40,10 +46,6 @@ returns c =
     let a = c .before .before .before .before .args in
     let e = refused (now (a .sheet)) (length (now (a .out))) (λ z. c .if1 .taken (c .before .check .ensures ∙ z)) in
     (sym (ap length e), sym (ap (λ (l : List ℕ). over l (now (a .out))) e))
-
-counts-of-requires : tie.Need-counts-of-requires
-unfolding sheetEnd
-counts-of-requires c κs = omega (arith, runs _ _ (zero c) .whole)
 
 sub-run-settings : tie.Need-sub-run-settings
 sub-run-settings c = omega (arith, sizes (c .before .before .before) .whole)
@@ -81,13 +83,13 @@ run-events-requires c κs =
 
 add-result : tie.Need-add-result
 add-result c =
-    let n = c .before .before .before .before .before .before .before .before .before .before .before .before .before .before .before .before .before .counts-of .ensures in
-    omega (arith, n .2, n .3)
+    let n = c .before .before .before .before .before .before .before .before .before .before .before .before .before .before .before .before .before .counts-of .ensures .1 in
+    omega (arith, n .0, n .1)
 
 mul-result : tie.Need-mul-result
 mul-result c =
-    let n = c .before .before .before .before .before .before .before .before .before .before .before .before .before .before .before .before .before .counts-of .ensures in
-    omega (arith, n .2, n .3)
+    let n = c .before .before .before .before .before .before .before .before .before .before .before .before .before .before .before .before .before .counts-of .ensures .1 in
+    omega (arith, n .0, n .1)
 
 returns-2 : tie.Need-returns-2
 unfolding recordCount
@@ -95,7 +97,7 @@ returns-2 c =
     let ran = c .before .before .run-events in
     let settled = c .before .before .before .before .before .before .before .before .before .run-settings in
     let counted = c .before .before .before .before .before .before .before .before .before .before .before .before .before .before .before .before .before in
-    let n = counted .counts-of .ensures in
+    let n = counts counted in
     let a = counted .before .before .before .before .before .args in
     let z = zero (counted .before) in (
       omega (arith, outputs (now (a .sheet)) (now (a .out)) z .written, n .0, n .1),
@@ -109,7 +111,7 @@ run-into-spec =
     (tie.spec
     (search needs)
     returns
-    counts-of-requires
+    (search needs)
     (search needs)
     sub-run-settings
     part-run-settings-start

@@ -5,9 +5,9 @@ use lib.Seq.{take-at}
 use borrow.Author.Needs.{needs}
 use Rattle.rules.specs.Sheet as rules
 use Rattle.rules.specs.Sheet.{outputAfter}
-use Rattle.sheet.proofs.run.Statement.{statement}
+use Rattle.run.proofs.run.Statement.{statement}
 use denote.Ref.{now}
-use Rattle.sheet.proofs.run.Tie as tie
+use Rattle.run.proofs.run.Tie as tie
 
 front : (c : tie.After-run-into)
     → let a = c .before .before .before .before .args in

@@ -9,11 +9,11 @@ use Rattle.rules.specs.Run as rules
 use Rattle.rules.specs.Run.{run, outcome}
 use Rattle.rules.specs.Sheet.{settingsOf, records}
 use Rattle.tick.specs.Bridge.{stateOf}
 use Rattle.sheet.proofs.Parts.{part-all}
-use Rattle.sheet.proofs.Steps.{Going, going-start, going-put, going-done, settings-more}
-use Rattle.sheet.proofs.run_settings.Statement.{statement}
+use Rattle.run.proofs.Steps.{Going, going-start, going-put, going-done, settings-more}
+use Rattle.run.proofs.run_settings.Statement.{statement}
 use denote.Ref.{now}
-use Rattle.sheet.proofs.run_settings.Tie as tie
+use Rattle.run.proofs.run_settings.Tie as tie
 
 abbrev Inv-loop : tie.InvT-loop
 Inv-loop part n sums₀ backup₀ out₀ k₀ i₀ sums backup out k i =

@@ -9,11 +9,11 @@ use Rattle.rules.specs.Sheet as rules
 use Rattle.rules.specs.Sheet.{bad, decode, eventsOf, records}
 use Rattle.tick.specs.Bridge.{stateOf}
 use Rattle.fields.specs.Bridge.{decodedOf}
 use Rattle.sheet.proofs.Parts.{part-all}
-use Rattle.sheet.proofs.Steps.{Going, going-start, going-put, going-done, events-more, events-stop}
-use Rattle.sheet.proofs.run_events.Statement.{statement}
+use Rattle.run.proofs.Steps.{Going, going-start, going-put, going-done, events-more, events-stop}
+use Rattle.run.proofs.run_events.Statement.{statement}
 use denote.Ref.{now}
-use Rattle.sheet.proofs.run_events.Tie as tie
+use Rattle.run.proofs.run_events.Tie as tie
 
 abbrev Inv-loop : tie.InvT-loop
 Inv-loop part n sums₀ backup₀ out₀ k₀ i₀ sums backup out k i =
@@ -27,18 +27,15 @@ abbrev μ-loop : tie.MeasureT-loop
 reads-at : (c : tie.After-read-event Inv-loop μ-loop) (d : rules.Decoded) → decodedOf (c .read-event .result) ≡ d
     → decode (drop (8 * c .before .before .before .loop .i) (now (c .before .before .before .before .before .before .args .part))) ≡ d
 reads-at c d h =
-    ap decode (sym (part-all (8 * c .before .before .before .loop .i) (now (c .before .before .before .before .before .before .args .part))))
-    ∙ sym (c .read-event .ensures) ∙ h
+    let i = c .before .before .before .loop .i in
+    let part = now (c .before .before .before .before .before .before .args .part) in
+    ap decode (sym (part-all (8 * i) part))
+    ∙ sym (c .read-event .ensures .0 (rw part-all (omega (arith, length-drop (8 * i) part)))) ∙ h
 
 loop-holds : tie.Need-loop-holds Inv-loop μ-loop
 loop-holds c =
     let a = c .before .before .args in
     (search needs, rw (sub-zero (a .n)) (going-start (stateOf (a .start) (now (a .sums)) (now (a .backup))) (eventsOf (a .n) (now (a .part))) (now (a .out))))
-
-read-event-requires : tie.Need-read-event-requires Inv-loop μ-loop
-read-event-requires c κs =
-    let at-loop = c .before .before in
-    rw part-all (omega (arith, length-drop (8 * at-loop .loop .i) (now (at-loop .before .before .before .args .part))))
 
 same-length : tie.Need-same-length Inv-loop μ-loop
 same-length c = c .before .before .before .before .before .loop .inv .1 .same
@@ -97,7 +94,7 @@ run-events-spec =
     (omega arith)
     (omega arith)
     (omega arith)
-    read-event-requires
+    (search needs)
     (search needs)
     (search needs)
     same-length

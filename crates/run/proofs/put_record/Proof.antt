@@ -4,11 +4,11 @@ use native.Mathlib.Omega.{arith}
 use borrow.Author.Needs.{needs}
 use Rattle.rules.specs.Reading.{qualifiedMask}
 use Rattle.tick.specs.Bridge.{stateOf}
-use Rattle.sheet.proofs.Parts.{four}
-use Rattle.sheet.proofs.Records.{record-is}
-use Rattle.sheet.proofs.put_record.Statement.{statement}
+use Rattle.run.proofs.Parts.{four}
+use Rattle.run.proofs.Records.{record-is}
+use Rattle.run.proofs.put_record.Statement.{statement}
 use denote.Ref.{now}
-use Rattle.sheet.proofs.put_record.Tie as tie
+use Rattle.run.proofs.put_record.Tie as tie
 
 slice-write-out-2 : tie.Need-slice-write-out-2
 slice-write-out-2 c = simp length-set (omega arith)

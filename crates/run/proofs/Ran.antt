@@ -9,10 +9,10 @@ use Rattle.rules.specs.Events.{Event}
 use Rattle.rules.specs.State.{State}
 use Rattle.rules.specs.Registers.{fresh}
 use Rattle.rules.specs.Run.{outcome, run}
-use Rattle.rules.specs.Sheet.{settingsCount, eventsAt, eventsCount, settingsOf, eventsOf, sheetEvents, check, recordOf, records, front, outputAfter}
+use Rattle.rules.specs.Sheet.{settingsCount, eventsAt, eventsCount, settingsOf, eventsOf, sheetEvents, check, recordOf, records, front, over, outputAfter}
 use Rattle.rules.proofs.Sheets.{length-settings, length-records}
-use Rattle.sheet.specs.Parts.{over}
-use Rattle.sheet.proofs.Parts.{came-back, part-all}
+use Rattle.sheet.proofs.Parts.{part-all}
+use Rattle.run.proofs.Parts.{came-back}
 
 pub records-append : (s : State) (xs ys : List Event) → records s (xs ++ ys) ≡ records s xs ++ records (run s xs) ys
 unfolding records recordOf run outcome

@@ -1,0 +1,82 @@
+-- The steps of the loops that run a sheet's settings and events.
+use Prim.Native.Nat.{ℕ, _+_, _-_, _*_, _≤_, _<_}
+use mathlib.Core.Path.{_≡_, refl, ap, sym, _∙_, subst}
+use mathlib.Core.List.{List, [], _∷_, _++_, append-assoc, append-nil}
+use native.Mathlib.Nat.{add-zero}
+use native.Mathlib.Omega.{arith}
+use lib.ListN.{length, take, drop, getD, length-drop, length-append, take-append-drop}
+use lib.Seq.{length-take-le, take-at, drop-at, drop-drop, getD-drop}
+use Rattle.rules.specs.Events.{Event, write}
+use Rattle.rules.specs.State.{State}
+use Rattle.rules.specs.Run.{Outcome, outcome}
+use Rattle.rules.specs.Sheet.{event, bad, decode, settingsOf, before, eventsOf, recordOf, records, over}
+use Rattle.sheet.proofs.Steps.{one-less, next}
+use Rattle.run.proofs.Parts.{came-back}
+
+module _ (n i : ℕ) (l : List ℕ) (h : i < n) where
+  pub events-more : (e : Event) → decode (drop (8 * i) l) ≡ event e → eventsOf (n - i) (drop (8 * i) l) ≡ e ∷ eventsOf (n - (i + 1)) (drop (8 * (i + 1)) l)
+  unfolding eventsOf before
+  events-more e d = rw (one-less n i h, d, next 8 (8 * i) (8 * (i + 1)) l (omega arith)) refl
+
+  pub events-stop : decode (drop (8 * i) l) ≡ bad → eventsOf (n - i) (drop (8 * i) l) ≡ []
+  unfolding eventsOf before
+  events-stop d = rw (one-less n i h, d) refl
+
+  pub settings-more : settingsOf (n - i) (drop (2 * i) l) ≡ write (getD l (2 * i) 0) (getD l (2 * i + 1) 0) ∷ settingsOf (n - (i + 1)) (drop (2 * (i + 1)) l)
+  unfolding settingsOf
+  settings-more = rw (one-less n i h, next 2 (2 * i) (2 * (i + 1)) l (omega arith)) (simp (getD-drop, add-zero))
+
+-- Part of the records are written: those of the first `place` bytes. What is left is `rest`, from the state s.
+pub record Going (all before : List ℕ) (place : ℕ) (s : State) (rest : List Event) (out : List ℕ) : Type 0 where
+  pub same : length out ≡ length before
+  pub front : take place out ++ records s rest ≡ all
+  pub back : drop place out ≡ drop place before
+
+pub going-start : (s : State) (es : List Event) (out : List ℕ) → Going (records s es) out 0 s es out
+going-start s es out = record { same = refl; front = refl; back = refl }
+
+going-more :
+    (all before : List ℕ) (place : ℕ) (s : State) (e : Event) (es : List Event) (out : List ℕ)
+    → place + 4 ≤ length before → Going all before place s (e ∷ es) out
+    → Going all before (place + 4) (outcome s e .state) es ((take place out ++ recordOf (outcome s e)) ++ drop (place + 4) out)
+unfolding records recordOf
+going-more all before place s e es out h g =
+    let r = recordOf (outcome s e) in
+    let t : length (take place out) ≡ place = length-take-le place out (omega (arith, g .same)) in
+    let f : length (take place out ++ r) ≡ place + 4 = length-append (take place out) r ∙ ap (λ (k : ℕ). k + 4) t in
+    record {
+      same = length-append (take place out ++ r) (drop (place + 4) out) ∙ omega (arith, length-drop (place + 4) out, g .same);
+      front =
+          ap (λ (l : List ℕ). l ++ records (outcome s e .state) es) (take-at (take place out ++ r) (drop (place + 4) out) (place + 4) f)
+          ∙ append-assoc (take place out) r (records (outcome s e .state) es) ∙ g .front;
+      back = drop-at (take place out ++ r) (drop (place + 4) out) (place + 4) f ∙ sym (drop-drop 4 place out) ∙ ap (drop 4) (g .back) ∙ drop-drop 4 place before;
+    }
+
+-- One turn of a loop: the event e gave o, and the part of the output from `place` on came back as w.
+pub going-put :
+    (all before : List ℕ) (place further : ℕ) (s : State) (e : Event) (rest es : List Event) (out w : List ℕ) (o : Outcome)
+    → place + 4 ≡ further → further ≤ length before
+    → rest ≡ e ∷ es → o ≡ outcome s e
+    → w ≡ over (recordOf o) (take (length out - place) (drop place out))
+    → Going all before place s rest out
+    → Going all before further (o .state) es (take place out ++ (w ++ drop (length out - place) (drop place out)))
+unfolding recordOf
+going-put all before place further s e rest es out w o f h r q p g =
+    rw (p, q, ← f)
+    (subst (λ (t : List ℕ). Going all before (place + 4) (outcome s e .state) es t)
+    (sym (came-back place (recordOf (outcome s e)) out))
+    (going-more all before place s e es out (omega arith) (subst (λ (k : List Event). Going all before place s k out) r g)))
+
+-- Nothing is left to run.
+pub going-done :
+    (all before : List ℕ) (place : ℕ) (s : State) (rest : List Event) (out : List ℕ)
+    → place ≤ length before → rest ≡ [] → Going all before place s rest out → out ≡ over all before
+unfolding records
+going-done all before place s rest out h r g =
+    let t : length (take place out) ≡ place = length-take-le place out (omega (arith, g .same)) in
+    let a : take place out ≡ all = sym (append-nil (take place out)) ∙ ap (λ (l : List Event). take place out ++ records s l) (sym r) ∙ g .front in
+    let n : place ≡ length all = sym t ∙ ap length a in
+    sym (take-append-drop place out)
+    ∙ ap (λ (l : List ℕ). take place out ++ l) (g .back)
+    ∙ ap (λ (l : List ℕ). l ++ drop place before) a
+    ∙ ap (λ (k : ℕ). all ++ drop k before) n

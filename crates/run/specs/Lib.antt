@@ -1,0 +1,2 @@
+-- The promise of service in the records of a run sheet.
+pub mod Service

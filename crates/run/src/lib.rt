@@ -1,0 +1,147 @@
+// The run of a sheet on a fresh unit (document 01, "Run sheet and rack program"): its settings, its events and their records; and what is exported.
+// Each contract is an equation with a rule of crates/rules/specs/Sheet.antt; the rule is named above the function.
+ghost use mathlib.Core.Path.{_≡_};
+ghost use Prim.Native.Nat.{_*_, _≤_};
+ghost use mathlib.Core.List.{List};
+ghost use lib.IntN.{ℤ};
+ghost use lib.ListN.{length};
+ghost use Rattle.rules.specs.Run as rules;
+ghost use Rattle.rules.specs.Sheet as rules-sheet;
+ghost use Rattle.rules.specs.Sheet.{settingsOf, eventsOf, recordOf, records, front, over, outputAfter};
+ghost use Rattle.tick.specs.Bridge.{stateOf};
+use fields::Decoded;
+use tick::Core;
+
+// ---- the run
+
+// The rule `recordOf`, at the front of a part of the output.
+fn put_record(out: &mut [u8], refusal: u8, k: Core)
+    requires { ⌜ 4 ≤ length (now out) ⌝ }
+    ensures { λ _. ⌜ ((sums backup : List ℤ) → length sums ≡ 64 → length backup ≡ 64 → now (out .exit) ≡ over (recordOf (record { refusal = refusal; state = stateOf k sums backup })) (now (out .entry))) ⌝ }
+{
+    let status = readout::status_byte(k);
+    let state = readout::state_byte(k);
+    let qualified = inputs::qualified_mask(k.monitors);
+    out[0] = refusal;
+    out[1] = state;
+    out[2] = qualified;
+    out[3] = status;
+}
+
+// n settings run as writes: the core after them.
+fn run_settings(
+    part: &[u8],
+    n: usize,
+    start: Core,
+    sums: &mut [i64; 64],
+    backup: &mut [i64; 64],
+    out: &mut [u8],
+) -> Core
+    requires { ⌜ (2 * n ≤ length (now part)) × (4 * n ≤ length (now out)) ⌝ }
+    ensures { λ r. ⌜ stateOf r (now (sums .exit)) (now (backup .exit)) ≡ rules.run (stateOf start (now (sums .entry)) (now (backup .entry))) (settingsOf n (now (part .entry))) ⌝ }
+    ensures { λ _. ⌜ now (out .exit) ≡ over (records (stateOf start (now (sums .entry)) (now (backup .entry))) (settingsOf n (now (part .entry)))) (now (out .entry)) ⌝ }
+{
+    let mut k = start;
+    let mut i = 0;
+    while i < n {
+        let at = 2 * i;
+        let s = unit::write(part[at], part[at + 1], k, sums, backup);
+        let next = s.core;
+        let place = 4 * i;
+        put_record(&mut out[place..], s.refusal, next);
+        k = next;
+        i += 1;
+    }
+    k
+}
+
+// n events run, up to the first that is none.
+fn run_events(
+    part: &[u8],
+    n: usize,
+    start: Core,
+    sums: &mut [i64; 64],
+    backup: &mut [i64; 64],
+    out: &mut [u8],
+)
+    requires { ⌜ (8 * n ≤ length (now part)) × (4 * n ≤ length (now out)) ⌝ }
+    ensures { λ _. ⌜ now (out .exit) ≡ over (records (stateOf start (now (sums .entry)) (now (backup .entry))) (eventsOf n (now (part .entry)))) (now (out .entry)) ⌝ }
+{
+    let mut k = start;
+    let mut i = 0;
+    while i < n {
+        let at = 8 * i;
+        let Decoded::Event(e) = sheet::read_event(&part[at..]) else {
+            return;
+        };
+        let s = unit::step(e, k, sums, backup);
+        let next = s.core;
+        let place = 4 * i;
+        put_record(&mut out[place..], s.refusal, next);
+        k = next;
+        i += 1;
+    }
+}
+
+// The rules `front` and `outputAfter`: runs a sheet into the front of the output, and says how many bytes that is, 0 where the sheet is refused.
+pub fn run_into(sheet: &[u8], out: &mut [u8]) -> usize
+    ensures { λ r. ⌜ r ≡ length (front (now (sheet .entry)) (length (now (out .entry)))) ⌝ }
+    ensures { λ _. ⌜ now (out .exit) ≡ outputAfter (now (sheet .entry)) (now (out .entry)) ⌝ }
+{
+    if sheet::check(sheet, out.len()) != 0 {
+        return 0;
+    }
+    let c = sheet::counts_of(sheet);
+    let settings = c.settings;
+    let events = c.events;
+    let u = unit::fresh();
+    let mut sums = u.sums;
+    let mut backup = u.backup;
+    let k = run_settings(
+        &sheet[2..],
+        settings,
+        u.core,
+        &mut sums,
+        &mut backup,
+        &mut out[..],
+    );
+    let start = 2 + 2 * settings + 2;
+    let next = 4 * settings;
+    run_events(
+        &sheet[start..],
+        events,
+        k,
+        &mut sums,
+        &mut backup,
+        &mut out[next..],
+    );
+    4 * (settings + events)
+}
+
+// The rule `front`: runs a sheet, and hands back the written front part of the output, empty where the sheet is refused.
+pub fn run<'a>(sheet: &[u8], out: &'a mut [u8]) -> &'a mut [u8]
+    ensures { λ r. ⌜ now r ≡ front (now (sheet .entry)) (length (now (out .entry))) ⌝ }
+    ensures { λ r. ⌜ r .ptr ≡ out .entry .ptr ⌝ }
+{
+    let n = run_into(sheet, out);
+    &mut out[..n]
+}
+
+// ---- exported
+
+// `sheet::check`, for C and Rust.
+#[no_mangle]
+pub extern "C" fn sheet_check(sheet: &[u8], room: usize) -> u8
+    ensures { λ r. ⌜ r ≡ rules-sheet.check (now (sheet .entry)) room ⌝ }
+{
+    sheet::check(sheet, room)
+}
+
+// `run_into`, for C and Rust.
+#[no_mangle]
+pub extern "C" fn sheet_run(sheet: &[u8], out: &mut [u8]) -> usize
+    ensures { λ r. ⌜ r ≡ length (front (now (sheet .entry)) (length (now (out .entry)))) ⌝ }
+    ensures { λ _. ⌜ now (out .exit) ≡ outputAfter (now (sheet .entry)) (now (out .entry)) ⌝ }
+{
+    run_into(sheet, out)
+}
