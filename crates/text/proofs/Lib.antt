@@ -1,4 +1,3 @@
 -- Laws that the proofs share.
-pub mod Places
-pub mod Digits
+pub mod Front
 pub mod Line

@@ -2,55 +2,18 @@
 // Each contract is an equation with a rule of crates/rules/specs/Printout.antt; the rule is named above the function.
 // The lent array has room for every text: a first line of at most 13 bytes, and at most 18 for each of 8,383 records, which is the most that a sheet gives.
 ghost use mathlib.Core.Path.{_≡_};
-ghost use mathlib.Core.List.{[], _∷_};
 ghost use Prim.Native.Nat.{_+_, _*_, _/_, _≤_, _<_, min};
 ghost use lib.ListN.{length, drop};
-ghost use Rattle.rules.specs.Printout as rules;
-ghost use Rattle.rules.specs.Printout.{blank, decimal, hexadecimal, refusedWord, headLine, recordLine};
+ghost use Rattle.rules.specs.Printout.{refusedWord, headLine, recordLine};
 ghost use Rattle.rules.specs.Sheet.{over};
-ghost use Rattle.text.specs.Text.{Puts, recordsText};
+ghost use Rattle.digits.specs.Places.{Puts};
+ghost use Rattle.text.specs.Text.{recordsText};
 use arith::wide32;
+use digits::put;
+use digits::put_decimal;
+use digits::put_hexadecimal;
 
-// ---- parts of a line: each is put at a place of the array, and the place after it is returned
-
-// One byte.
-fn put(byte: u8, at: usize, out: &mut [u8; 151000]) -> usize
-    requires { ⌜ at < 151000 ⌝ }
-    ensures { λ r. ⌜ Puts (byte ∷ []) at (now (out .entry)) r (now (out .exit)) ⌝ }
-{
-    out[at] = byte;
-    at + 1
-}
-
-// The rule `digit`.
-fn digit(d: u8) -> u8
-    requires { ⌜ d < 16 ⌝ }
-    ensures { λ r. ⌜ r ≡ rules.digit d ⌝ }
-{
-    if d < 10 { 48 + d } else { 87 + d }
-}
-
-// The rule `decimal`: the digits of a tenth, and the last digit.
-fn put_decimal(n: u32, at: usize, out: &mut [u8; 151000]) -> usize
-    requires { ⌜ at + length (decimal n) ≤ 151000 ⌝ }
-    ensures { λ r. ⌜ Puts (decimal n) at (now (out .entry)) r (now (out .exit)) ⌝ }
-{
-    if n < 10 {
-        return put(digit(n as u8), at, out);
-    }
-    let last = put_decimal(n / 10, at, out);
-    put(digit((n % 10) as u8), last, out)
-}
-
-// A blank and the rule `hexadecimal`.
-fn put_hexadecimal(byte: u8, at: usize, out: &mut [u8; 151000]) -> usize
-    requires { ⌜ at + 3 ≤ 151000 ⌝ }
-    ensures { λ r. ⌜ Puts (blank ∷ hexadecimal byte) at (now (out .entry)) r (now (out .exit)) ⌝ }
-{
-    let high = put(b' ', at, out);
-    let low = put(digit(byte / 16), high, out);
-    put(digit(byte % 16), low, out)
-}
+// ---- lines: each is put at a place of the array, and the place after it is returned
 
 // A word, at the front.
 fn put_word(word: &[u8], out: &mut [u8]) -> usize
@@ -64,8 +27,6 @@ fn put_word(word: &[u8], out: &mut [u8]) -> usize
     }
     i
 }
-
-// ---- lines
 
 // The rule `headLine`, at the front. Callers learn here how long the array is.
 fn put_head(word: &[u8], n: u32, out: &mut [u8; 151000]) -> usize

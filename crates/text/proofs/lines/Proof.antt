@@ -4,8 +4,10 @@ use mathlib.Core.Path.{_≡_}
 use native.Mathlib.Omega.{arith}
 use borrow.Author.Needs.{needs}
 use Rattle.rules.specs.Printout.{recordsWord, recordLines}
-use Rattle.text.specs.Text.{Puts, recordsText}
-use Rattle.text.proofs.Places.{nothing, then, from-front}
+use Rattle.digits.specs.Places.{Puts}
+use Rattle.text.specs.Text.{recordsText}
+use Rattle.digits.proofs.Places.{nothing, then}
+use Rattle.text.proofs.Front.{from-front}
 use Rattle.text.proofs.Line.{next-line}
 use Rattle.text.proofs.lines.Statement.{statement}
 use Rattle.text.proofs.lines.Tie as tie

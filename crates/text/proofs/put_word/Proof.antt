@@ -7,8 +7,8 @@ use lib.ListN.{length, take, length-set}
 use lib.Seq.{take-suc, take-all}
 use borrow.Author.Needs.{needs}
 use denote.Ref.{now}
-use Rattle.text.specs.Text.{Puts}
-use Rattle.text.proofs.Places.{nothing, one-byte, then}
+use Rattle.digits.specs.Places.{Puts}
+use Rattle.digits.proofs.Places.{nothing, one-byte, then}
 use Rattle.text.proofs.put_word.Statement.{statement}
 use Rattle.text.proofs.put_word.Tie as tie
 

@@ -2,7 +2,7 @@
 use native.Mathlib.Omega.{arith}
 use borrow.Author.Needs.{needs}
 use Rattle.rules.specs.Printout.{refusedWord}
-use Rattle.text.proofs.Places.{from-front}
+use Rattle.text.proofs.Front.{from-front}
 use Rattle.text.proofs.refused.Statement.{statement}
 use Rattle.text.proofs.refused.Tie as tie
 

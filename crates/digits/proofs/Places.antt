@@ -1,13 +1,12 @@
 -- Texts put one after the other.
-use Prim.Native.Nat.{ℕ, suc, _+_, _≤_}
+use Prim.Native.Nat.{ℕ, suc, _+_}
 use mathlib.Core.Path.{_≡_, refl, ap, sym, _∙_}
 use mathlib.Core.List.{List, [], _∷_, _++_}
-use native.Mathlib.Nat.{add-zero, zero-add}
+use native.Mathlib.Nat.{add-zero}
 use native.Mathlib.Omega.{arith}
-use lib.ListN.{length, drop, set, length-append}
-use lib.Seq.{sets, sets-eq}
-use Rattle.rules.specs.Sheet.{over}
-use Rattle.text.specs.Text.{Puts}
+use lib.ListN.{length, set, length-append}
+use lib.Seq.{sets}
+use Rattle.digits.specs.Places.{Puts}
 
 sets-append : (x y l : List ℕ) (at : ℕ) → sets l at (x ++ y) ≡ sets (sets l at x) (at + length x) y
 sets-append [] y l at = ap (λ n. sets l n y) (sym (add-zero at))
@@ -29,12 +28,3 @@ then {x} {y} {before} {between} {after} {at} {next} {end} p q =
       place = omega (arith, p .place, q .place, length-append x y);
       stored = q .stored ∙ (λ j. sets (p .stored j) (p .place j) y) ∙ sym (sets-append x y before at);
     }
-
--- a text at the front, where there is room for it
-pub from-front :
-    {text before after : List ℕ} {next : ℕ}
-    → next ≤ length before → Puts text 0 before next after
-    → (next ≡ length text) × (after ≡ over text before)
-from-front {text} {before} {after} {next} h p =
-    let e = zero-add (length text) in
-    (p .place ∙ e, p .stored ∙ sets-eq text before 0 (omega (arith, p .place)) ∙ ap (λ n. text ++ drop n before) e)
