@@ -1,5 +1,7 @@
 -- A unit that a call was given, or that an outcome holds, has kept sums with their 64 places.
+use mathlib.Core.Path.{_≡_}
 use mathlib.Core.List.{List}
+use lib.ListN.{length}
 use borrow.Author.Needs.{needs}
 use mir.Val.{Val}
 use denote.Laws.{Is}
@@ -15,7 +17,8 @@ use Rattle.host.specs.Lent.{Places}
 pub places-of : (u : code.Unit) (vs : List Val) → Is U.the-row u vs → Places u
 places-of u vs is =
     let sums = laws.owed U.the-type U′.the-laws u vs is .1 in
-    search needs
+    let places : length (u .sums) ≡ 64 = search needs in
+    places
 
 pub places-after : (o : Outcome) (vs : List Val) → Is O.the-row o vs → Places (o .unit)
 places-after o vs is = places-of (o .unit) _ (laws.owed O.the-type O′.the-laws o vs is .1 .0)
