@@ -69,12 +69,21 @@ pub fn weigh(c: bool, v: u8) -> u8
     if c { v } else { 0 }
 }
 
-// The mask of eight tests, the first in bit 0.
+// The same in a wider number.
+fn weigh16(c: bool, v: u16) -> u16
+    ensures { λ r. ⌜ (r ≡ (if c then v else 0)) × (r ≤ v) ⌝ }
+{
+    if c { v } else { 0 }
+}
+
+// The mask of eight tests, the first in bit 0. It is summed in wider numbers, so that eight tests can be weighed side by side.
 pub fn mask_of(a: bool, b: bool, c: bool, d: bool, e: bool, f: bool, g: bool, h: bool) -> u8
     ensures { λ r. ⌜ r ≡ maskUpTo (λ i. getD (a ∷ b ∷ c ∷ d ∷ e ∷ f ∷ g ∷ h ∷ []) (i - 1) false) 8 ⌝ }
 {
-    weigh(h, 128)
-        + (weigh(g, 64)
-            + (weigh(f, 32)
-                + (weigh(e, 16) + (weigh(d, 8) + (weigh(c, 4) + (weigh(b, 2) + weigh(a, 1)))))))
+    let sum = weigh16(h, 128)
+        + (weigh16(g, 64)
+            + (weigh16(f, 32)
+                + (weigh16(e, 16)
+                    + (weigh16(d, 8) + (weigh16(c, 4) + (weigh16(b, 2) + weigh16(a, 1)))))));
+    sum as u8
 }

@@ -12,7 +12,7 @@ use Rattle.rules.specs.Words.{isInput}
 use Rattle.rules.specs.Monitors.{Input, fullSoak, qualified, freshInput}
 use Rattle.rules.specs.Selection.{input, altered}
 use Rattle.rules.proofs.Tests.{by-test, is-between}
-use Rattle.inputs.specs.Bridge.{inputOf, laneAt, eight, inputsOf}
+use Rattle.inputs.specs.Bridge.{inputAt, eight, inputsOf}
 use Rattle.inputs.specs.declared.Monitors.{Monitors}
 
 -- ---- an input read
@@ -30,9 +30,9 @@ eight-at f d (suc (suc (suc (suc (suc (suc (suc zero))))))) h = refl
 eight-at f d (suc (suc (suc (suc (suc (suc (suc (suc j)))))))) h = absurd (omega arith)
 
 -- the input at a place
-pub input-at : (m : Monitors) (k : ℕ) → k < 8 → getD (inputsOf m) k freshInput ≡ inputOf (laneAt m k)
+pub input-at : (m : Monitors) (k : ℕ) → k < 8 → getD (inputsOf m) k freshInput ≡ inputAt m k
 unfolding inputsOf
-input-at m k h = eight-at (λ j. inputOf (laneAt m j)) freshInput k h
+input-at m k h = eight-at (inputAt m) freshInput k h
 
 -- input c is qualified by the soak at its place
 pub qualified-lane : (m : Monitors) (c k : ℕ) → 1 ≤ c → c ≤ 8 → k ≡ c - 1
@@ -56,21 +56,16 @@ eight-set f g k v same other =
 pub same-at : (l : List ℕ) (k v : ℕ) → length l ≡ 8 → k < 8 → getD (set l k v) k 0 ≡ v
 same-at l k v e h = getD-set-same l k v 0 (omega arith)
 
--- the stored numbers with other frequency alarms, remainders and soaks
-abbrev pub withAlarms : Monitors → List ℕ → List ℕ → List ℕ → Monitors
-withAlarms m frequency remainder soak =
-    record { level = m .level; decay = m .decay; active = m .active; frequency = frequency; remainder = remainder; soak = soak }
-
 -- one input with another frequency alarm, remainder and soak
 abbrev pub alarmed : Input → Bool → ℕ → ℕ → Input
 alarmed x frequency remainder soak = record { activity = x .activity; frequency = frequency; remainder = remainder; soak = soak }
 
 -- input i altered: the numbers at its place are those of the altered input, and the others stay
 pub altered-lane : (f : Input → Input) (m r : Monitors) (i : ℕ) {k : ℕ} → k ≡ i - 1
-    → (k < 8 → inputOf (laneAt r k) ≡ f (inputOf (laneAt m k))) → ((j : ℕ) → (j ≡ k → ⊥) → inputOf (laneAt r j) ≡ inputOf (laneAt m j))
+    → (k < 8 → inputAt r k ≡ f (inputAt m k)) → ((j : ℕ) → (j ≡ k → ⊥) → inputAt r j ≡ inputAt m j)
     → inputsOf r ≡ altered f i (inputsOf m)
 unfolding altered inputsOf
 altered-lane f m r i {k} e same other =
-    eight-set (λ j. inputOf (laneAt m j)) (λ j. inputOf (laneAt r j)) k (f (getD (inputsOf m) k freshInput))
+    eight-set (inputAt m) (inputAt r) k (f (getD (inputsOf m) k freshInput))
     (λ h. same h ∙ ap f (sym (input-at m k h))) other
     ∙ rw e

@@ -1,36 +1,26 @@
 -- From the stored numbers of the inputs to the rules' inputs.
 use Prim.Native.Nat.{ℕ}
+use mathlib.Core.Path.{_≡_}
 use mathlib.Core.Bool.{Bool, not}
 use mathlib.Core.List.{List, [], _∷_}
+use denote.Ref.{RefT, now}
+use denote.Triple.Both.{Both}
 use lib.Dec.{eqb}
 use lib.ListN.{getD}
 use Rattle.rules.specs.Monitors.{Input}
 use Rattle.rules.specs.Selection.{Inputs}
 use Rattle.inputs.specs.declared.Monitors.{Monitors}
-use Rattle.inputs.specs.declared.Lane.{Lane}
 
 -- an alarm that is a number: 0 is clear, any other number is set
 abbrev pub isSet : ℕ → Bool
 isSet n = not (eqb n 0)
 
--- one input, from its numbers
-abbrev pub inputOf : Lane → Input
-inputOf x =
+-- the input at a place of the rows: input 1 is at 0
+abbrev pub inputAt : Monitors → ℕ → Input
+inputAt m k =
     record {
-      activity = record { level = x .level; decay = x .decay; alarm = isSet (x .active) };
-      frequency = isSet (x .frequency);
-      remainder = x .remainder;
-      soak = x .soak;
-    }
-
--- the numbers at a place: input 1 is at 0
-abbrev pub laneAt : Monitors → ℕ → Lane
-laneAt m k =
-    record {
-      level = getD (m .level) k 0;
-      decay = getD (m .decay) k 0;
-      active = getD (m .active) k 0;
-      frequency = getD (m .frequency) k 0;
+      activity = record { level = getD (m .level) k 0; decay = getD (m .decay) k 0; alarm = isSet (getD (m .active) k 0) };
+      frequency = isSet (getD (m .frequency) k 0);
       remainder = getD (m .remainder) k 0;
       soak = getD (m .soak) k 0;
     }
@@ -39,6 +29,51 @@ laneAt m k =
 abbrev pub eight : {A : Type 0} → (ℕ → A) → List A
 eight f = f 0 ∷ f 1 ∷ f 2 ∷ f 3 ∷ f 4 ∷ f 5 ∷ f 6 ∷ f 7 ∷ []
 
--- the rules' eight inputs that the monitors hold
+-- the rules' eight inputs that the rows hold
 unfoldable pub inputsOf : Monitors → Inputs
-inputsOf m = eight (λ k. inputOf (laneAt m k))
+inputsOf m = eight (inputAt m)
+
+-- ---- some of the rows replaced
+
+-- other frequency alarms, remainders and soaks
+abbrev pub withAlarms : Monitors → List ℕ → List ℕ → List ℕ → Monitors
+withAlarms m frequency remainder soak =
+    record { level = m .level; decay = m .decay; active = m .active; frequency = frequency; remainder = remainder; soak = soak }
+
+abbrev pub withFrequency : Monitors → List ℕ → Monitors
+withFrequency m frequency = withAlarms m frequency (m .remainder) (m .soak)
+
+abbrev pub withLockAlarms : Monitors → List ℕ → List ℕ → Monitors
+withLockAlarms m remainder soak = withAlarms m (m .frequency) remainder soak
+
+abbrev pub withSoak : Monitors → List ℕ → Monitors
+withSoak m soak = withAlarms m (m .frequency) (m .remainder) soak
+
+-- ---- rows that are lent
+
+-- a row of eight numbers that is lent for a change: as it lies when the call begins, and when it returns
+abbrev pub Row : Type 0
+Row = Both (RefT (List ℕ)) (RefT (List ℕ))
+
+-- what a tick is lent of the inputs: five rows for a change, and the frequency alarms for reading
+abbrev pub entering : Row → Row → Row → List ℕ → Row → Row → Monitors
+entering level decay active frequency remainder soak =
+    record {
+      level = now (level .entry);
+      decay = now (decay .entry);
+      active = now (active .entry);
+      frequency = frequency;
+      remainder = now (remainder .entry);
+      soak = now (soak .entry);
+    }
+
+abbrev pub leaving : Row → Row → Row → List ℕ → Row → Row → Monitors
+leaving level decay active frequency remainder soak =
+    record {
+      level = now (level .exit);
+      decay = now (decay .exit);
+      active = now (active .exit);
+      frequency = frequency;
+      remainder = now (remainder .exit);
+      soak = now (soak .exit);
+    }

@@ -1,16 +1,18 @@
-// The eight inputs' stored numbers: fresh, which are qualified, and one of them altered by a measurement, a lock alarm or a Hit.
+// The eight inputs' stored numbers (document 01, "Monitors"): fresh, which are qualified, and one of them altered by a measurement, a lock alarm or a Hit.
+// Each number has a row of eight, input 1 first. A function is lent the rows that it needs, and its contract holds whatever the others are.
 ghost use mathlib.Core.Path.{_≡_};
 ghost use Prim.Native.Nat.{_-_};
 ghost use mathlib.Core.Bool.{_&&_};
 ghost use lib.IntN.{natAbs};
-ghost use lib.ListN.{length, replicate, getD};
+ghost use lib.ListN.{length, replicate};
 ghost use lib.ListN as ListN;
 ghost use Rattle.rules.specs.Words.{isInput};
 ghost use Rattle.rules.specs.Monitors.{qualified, unsoaked, lockAlarmed, frequencyAfter, measured, freshInput};
 ghost use Rattle.rules.specs.Selection.{input, altered};
 ghost use Rattle.rules.specs.Reading.{maskUpTo};
 ghost use Rattle.rules.specs.Sheet.{signedByte};
-ghost use Rattle.inputs.specs.Bridge.{isSet, inputsOf};
+ghost use Rattle.inputs.specs.Bridge.{isSet, inputsOf, withFrequency, withLockAlarms, withSoak};
+ghost use Rattle.inputs.specs.declared.Monitors as stored;
 use arith::down;
 use arith::either;
 use arith::mask_of;
@@ -22,8 +24,8 @@ pub const FULL_SOAK: u16 = 79;
 // The ticks of a lock alarm.
 const ALARM_TICKS: u16 = 782;
 
-// The stored numbers of the eight inputs, input 1 first: the bucket's level and decay count, the activity alarm, the frequency alarm,
-// the lock alarm's remainder, the soak. An alarm is set when it is not 0.
+// The rows: the bucket's level and decay count, the activity alarm, the frequency alarm, the lock alarm's remainder, the soak. An alarm is set when it is
+// not 0.
 #[repr(C)]
 pub struct Monitors {
     pub level: [u16; 8],
@@ -32,17 +34,6 @@ pub struct Monitors {
     pub frequency: [u16; 8],
     pub remainder: [u16; 8],
     pub soak: [u16; 8],
-}
-
-// The numbers of one input.
-#[repr(C)]
-pub struct Lane {
-    pub level: u16,
-    pub decay: u16,
-    pub active: u16,
-    pub frequency: u16,
-    pub remainder: u16,
-    pub soak: u16,
 }
 
 // "Fresh: all counts 0, activity alarms clear, frequency alarms set"
@@ -59,7 +50,7 @@ pub fn fresh_monitors() -> Monitors
     }
 }
 
-// ---- the frequency alarm
+// ---- a measurement
 
 // The magnitude of a byte in two's complement. No byte is negated: from 128 on it is 256 less the byte, so that of -128 is 128.
 fn magnitude(b: u8) -> u8
@@ -88,78 +79,68 @@ fn place(i: u8) -> usize
     down(wide16(i)) as usize
 }
 
-// One number replaced, if there is a place k. The laws of one input altered also take from here that an array of eight has eight numbers.
-fn put(a: [u16; 8], k: usize, v: u16) -> [u16; 8]
-    ensures { λ r. ⌜ (r ≡ ListN.set a k v) × (length a ≡ 8) ⌝ }
+// A row has eight numbers: what its type says, as a fact. It costs nothing when compiled.
+pub fn places(row: [u16; 8]) -> usize
+    ensures { λ r. ⌜ length row ≡ 8 ⌝ }
 {
-    let mut r = a;
-    if k < 8 {
-        r[k] = v;
-        return r;
-    }
-    r
+    row.len()
 }
 
-// The number at a place, or 0 where there is none.
-fn number_at(a: [u16; 8], k: usize) -> u16
-    ensures { λ r. ⌜ r ≡ getD a k 0 ⌝ }
+// One number of a row replaced, if there is a place k.
+fn put(row: &mut [u16; 8], k: usize, v: u16)
+    ensures { λ _. ⌜ (now (row .exit) ≡ ListN.set (now (row .entry)) k v) × (length (now (row .entry)) ≡ 8) ⌝ }
 {
+    places(*row);
     if k < 8 {
-        return a[k];
+        row[k] = v;
+    }
+}
+
+// The number at a place of a row, or 0 where there is none.
+fn number_at(row: &[u16; 8], k: usize) -> u16
+    ensures { λ r. ⌜ r ≡ ListN.getD (now (row .entry)) k 0 ⌝ }
+{
+    places(*row);
+    if k < 8 {
+        return row[k];
     }
     0
 }
 
 // A measurement of input i: `measured`.
-pub fn measure(m: Monitors, i: u8, offset: u8, reject: u8, limit: u8) -> Monitors
-    ensures { λ r. ⌜ inputsOf r ≡ altered (measured reject limit (signedByte offset)) i (inputsOf m) ⌝ }
+pub fn measure(frequency: &mut [u16; 8], i: u8, offset: u8, reject: u8, limit: u8)
+    ensures { λ _. ⌜ ((m : stored.Monitors) → inputsOf (withFrequency m (now (frequency .exit))) ≡ altered (measured reject limit (signedByte offset)) i (inputsOf (withFrequency m (now (frequency .entry))))) ⌝ }
 {
     let k = place(i);
-    let old = m.frequency;
-    let new = put(
-        old,
-        k,
-        frequency_of(reject, limit, magnitude(offset), number_at(old, k)),
-    );
-    let mut r = m;
-    r.frequency = new;
-    r
+    let old = number_at(frequency, k);
+    let new = frequency_of(reject, limit, magnitude(offset), old);
+    put(frequency, k, new);
 }
 
 // The lock alarm of input i: `lockAlarmed`.
-pub fn alarm(m: Monitors, i: u8) -> Monitors
-    ensures { λ r. ⌜ inputsOf r ≡ altered lockAlarmed i (inputsOf m) ⌝ }
+pub fn alarm(remainder: &mut [u16; 8], soak: &mut [u16; 8], i: u8)
+    ensures { λ _. ⌜ ((m : stored.Monitors) → inputsOf (withLockAlarms m (now (remainder .exit)) (now (soak .exit))) ≡ altered lockAlarmed i (inputsOf (withLockAlarms m (now (remainder .entry)) (now (soak .entry))))) ⌝ }
 {
     let k = place(i);
-    let remainder = m.remainder;
-    let soak = m.soak;
-    let set = put(remainder, k, ALARM_TICKS);
-    let lost = put(soak, k, 0);
-    let mut r = m;
-    r.remainder = set;
-    r.soak = lost;
-    r
+    put(remainder, k, ALARM_TICKS);
+    put(soak, k, 0);
 }
 
 // The soak of input i at 0: `unsoaked`.
-pub fn unsoak(m: Monitors, i: u8) -> Monitors
-    ensures { λ r. ⌜ inputsOf r ≡ altered unsoaked i (inputsOf m) ⌝ }
+pub fn unsoak(soak: &mut [u16; 8], i: u8)
+    ensures { λ _. ⌜ ((m : stored.Monitors) → inputsOf (withSoak m (now (soak .exit))) ≡ altered unsoaked i (inputsOf (withSoak m (now (soak .entry))))) ⌝ }
 {
     let k = place(i);
-    let soak = m.soak;
-    let none = put(soak, k, 0);
-    let mut r = m;
-    r.soak = none;
-    r
+    put(soak, k, 0);
 }
 
 // ---- qualified
 
 // The mask of the qualified inputs, as 0x46 shows it.
-pub fn qualified_mask(m: Monitors) -> u8
-    ensures { λ r. ⌜ r ≡ maskUpTo (λ i. qualified (input (inputsOf m) i)) 8 ⌝ }
+pub fn qualified_mask(soak: &[u16; 8]) -> u8
+    ensures { λ r. ⌜ ((m : stored.Monitors) → r ≡ maskUpTo (λ i. qualified (input (inputsOf (withSoak m (now (soak .entry)))) i)) 8) ⌝ }
 {
-    let s = m.soak;
+    let s = *soak;
     mask_of(
         s[0] == FULL_SOAK,
         s[1] == FULL_SOAK,
@@ -173,16 +154,15 @@ pub fn qualified_mask(m: Monitors) -> u8
 }
 
 // Whether c is the number of an input that is qualified.
-pub fn qualified_at(m: Monitors, c: u8) -> bool
-    ensures { λ r. ⌜ r ≡ (isInput c && qualified (input (inputsOf m) c)) ⌝ }
+pub fn qualified_at(soak: &[u16; 8], c: u8) -> bool
+    ensures { λ r. ⌜ ((m : stored.Monitors) → r ≡ (isInput c && qualified (input (inputsOf (withSoak m (now (soak .entry)))) c))) ⌝ }
 {
     if c < 1 {
         return false;
     }
     if c <= 8 {
         let k = place(c);
-        let s = m.soak;
-        return s[k] == FULL_SOAK;
+        return soak[k] == FULL_SOAK;
     }
     false
 }

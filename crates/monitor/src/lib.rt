@@ -1,20 +1,19 @@
 // Tick steps 1 and 2 of the eight inputs (document 01, "Monitors (tick steps 1, 2)"): bucket, activity alarm, the lock alarm's remainder, soak.
+// Each number's row of eight is computed as a row, by a function of one input's numbers.
 ghost use mathlib.Core.Path.{_≡_};
-ghost use Prim.Native.Nat.{_+_, _<_};
-ghost use mathlib.Core.List.{[], _∷_};
+ghost use Prim.Native.Nat.{_+_, _-_};
 ghost use lib.Dec.{leb};
-ghost use Rattle.rules.specs.Words.{bit};
-ghost use Rattle.rules.specs.Monitors.{bucket, levelAfter, decayAfter, alarmAfter, good, soakAfter, monitored};
+ghost use lib.ListN.{getD};
+ghost use Rattle.rules.specs.Monitors.{bucket, levelAfter, decayAfter, good, soakAfter};
 ghost use Rattle.rules.specs.Tick as Tick;
-ghost use Rattle.inputs.specs.Bridge.{isSet, inputOf, laneAt, inputsOf};
+ghost use Rattle.inputs.specs.Bridge.{isSet, eight, inputsOf, entering, leaving};
+ghost use Rattle.monitor.specs.Rows.{weight, activeAfter};
 use arith::both;
 use arith::down;
 use arith::either;
 use arith::up;
 use arith::wide16;
 use inputs::FULL_SOAK;
-use inputs::Lane;
-use inputs::Monitors;
 
 // The bucket's size.
 const SIZE: u16 = 8;
@@ -55,9 +54,9 @@ fn decay_of(bad: bool, decay: u16) -> u16
     either(bad, 0, either(decays(decay), 0, up(decay, DECAY_TICKS)))
 }
 
-// The rule `alarmAfter`.
-fn alarm_of(level: u16, active: u16) -> u16
-    ensures { λ r. ⌜ isSet r ≡ alarmAfter bucket level (isSet active) ⌝ }
+// The rule `alarmAfter`, as a number: 1 where it is set anew.
+fn active_of(level: u16, active: u16) -> u16
+    ensures { λ r. ⌜ r ≡ activeAfter level active ⌝ }
 {
     either(
         SET_LEVEL <= level,
@@ -73,140 +72,138 @@ fn is_good(active: u16, frequency: u16, remainder: u16) -> bool
     both(both(active == 0, frequency == 0), remainder == 0)
 }
 
-// The rule `soakAfter`.
-fn soak_of(good: bool, soak: u16) -> u16
-    ensures { λ r. ⌜ r ≡ soakAfter good soak ⌝ }
+// The rule `soakAfter`, of an input with these alarms.
+fn soak_of(active: u16, frequency: u16, remainder: u16, soak: u16) -> u16
+    ensures { λ r. ⌜ r ≡ soakAfter (good (isSet active) (isSet frequency) remainder) soak ⌝ }
 {
-    either(good, up(soak, FULL_SOAK), 0)
-}
-
-// The rule `monitored`: steps 1 and 2 of one input.
-fn after(x: Lane, bad: bool) -> Lane
-    ensures { λ r. ⌜ inputOf r ≡ monitored bucket bad (inputOf x) ⌝ }
-{
-    let level = level_of(bad, x.level, x.decay);
-    let decay = decay_of(bad, x.decay);
-    let active = alarm_of(level, x.active);
-    let remainder = down(x.remainder);
-    let good = is_good(active, x.frequency, remainder);
-    let soak = soak_of(good, x.soak);
-    Lane {
-        level: level,
-        decay: decay,
-        active: active,
-        frequency: x.frequency,
-        remainder: remainder,
-        soak: soak,
-    }
-}
-
-// ---- the eight inputs
-
-// The numbers at a place.
-fn lane_at(m: Monitors, k: usize) -> Lane
-    requires { ⌜ k < 8 ⌝ }
-    ensures { λ r. ⌜ r ≡ laneAt m k ⌝ }
-{
-    Lane {
-        level: m.level[k],
-        decay: m.decay[k],
-        active: m.active[k],
-        frequency: m.frequency[k],
-        remainder: m.remainder[k],
-        soak: m.soak[k],
-    }
-}
-
-// Steps 1 and 2 of the input at a place, with its bit of the irregular mask.
-fn watched_at(m: Monitors, k: usize, mask: u16) -> Lane
-    requires { ⌜ k < 8 ⌝ }
-    ensures { λ r. ⌜ inputOf r ≡ monitored bucket (bit mask k) (inputOf (laneAt m k)) ⌝ }
-{
-    let bad = (mask >> k) % 2 == 1;
-    after(lane_at(m, k), bad)
-}
-
-// The monitors of these eight inputs.
-fn gathered(a: Lane, b: Lane, c: Lane, d: Lane, e: Lane, f: Lane, g: Lane, h: Lane) -> Monitors
-    ensures { λ r. ⌜ inputsOf r ≡ inputOf a ∷ inputOf b ∷ inputOf c ∷ inputOf d ∷ inputOf e ∷ inputOf f ∷ inputOf g ∷ inputOf h ∷ [] ⌝ }
-{
-    Monitors {
-        level: [
-            a.level,
-            b.level,
-            c.level,
-            d.level,
-            e.level,
-            f.level,
-            g.level,
-            h.level,
-        ],
-        decay: [
-            a.decay,
-            b.decay,
-            c.decay,
-            d.decay,
-            e.decay,
-            f.decay,
-            g.decay,
-            h.decay,
-        ],
-        active: [
-            a.active,
-            b.active,
-            c.active,
-            d.active,
-            e.active,
-            f.active,
-            g.active,
-            h.active,
-        ],
-        frequency: [
-            a.frequency,
-            b.frequency,
-            c.frequency,
-            d.frequency,
-            e.frequency,
-            f.frequency,
-            g.frequency,
-            h.frequency,
-        ],
-        remainder: [
-            a.remainder,
-            b.remainder,
-            c.remainder,
-            d.remainder,
-            e.remainder,
-            f.remainder,
-            g.remainder,
-            h.remainder,
-        ],
-        soak: [
-            a.soak,
-            b.soak,
-            c.soak,
-            d.soak,
-            e.soak,
-            f.soak,
-            g.soak,
-            h.soak,
-        ],
-    }
-}
-
-// The rule `watched`: steps 1 and 2.
-pub fn watched(m: Monitors, mask: u8) -> Monitors
-    ensures { λ r. ⌜ inputsOf r ≡ Tick.watched mask (inputsOf m) ⌝ }
-{
-    let b = wide16(mask);
-    gathered(
-        watched_at(m, 0, b),
-        watched_at(m, 1, b),
-        watched_at(m, 2, b),
-        watched_at(m, 3, b),
-        watched_at(m, 4, b),
-        watched_at(m, 5, b),
-        watched_at(m, 6, b),
-        watched_at(m, 7, b),
+    either(
+        is_good(active, frequency, remainder),
+        up(soak, FULL_SOAK),
+        0,
     )
+}
+
+// ---- rows of eight
+
+// The irregular mask as a row: the weight of each input's bit, or 0.
+fn irregular_row(mask: u8) -> [u16; 8]
+    ensures { λ r. ⌜ r ≡ eight (weight mask) ⌝ }
+{
+    let m = wide16(mask);
+    [
+        m / 1 % 2 * 1,
+        m / 2 % 2 * 2,
+        m / 4 % 2 * 4,
+        m / 8 % 2 * 8,
+        m / 16 % 2 * 16,
+        m / 32 % 2 * 32,
+        m / 64 % 2 * 64,
+        m / 128 % 2 * 128,
+    ]
+}
+
+fn level_row(b: [u16; 8], l: [u16; 8], d: [u16; 8]) -> [u16; 8]
+    ensures { λ r. ⌜ r ≡ eight (λ k. levelAfter bucket (isSet (getD b k 0)) (getD l k 0) (getD d k 0)) ⌝ }
+{
+    [
+        level_of(b[0] != 0, l[0], d[0]),
+        level_of(b[1] != 0, l[1], d[1]),
+        level_of(b[2] != 0, l[2], d[2]),
+        level_of(b[3] != 0, l[3], d[3]),
+        level_of(b[4] != 0, l[4], d[4]),
+        level_of(b[5] != 0, l[5], d[5]),
+        level_of(b[6] != 0, l[6], d[6]),
+        level_of(b[7] != 0, l[7], d[7]),
+    ]
+}
+
+fn decay_row(b: [u16; 8], d: [u16; 8]) -> [u16; 8]
+    ensures { λ r. ⌜ r ≡ eight (λ k. decayAfter bucket (isSet (getD b k 0)) (getD d k 0)) ⌝ }
+{
+    [
+        decay_of(b[0] != 0, d[0]),
+        decay_of(b[1] != 0, d[1]),
+        decay_of(b[2] != 0, d[2]),
+        decay_of(b[3] != 0, d[3]),
+        decay_of(b[4] != 0, d[4]),
+        decay_of(b[5] != 0, d[5]),
+        decay_of(b[6] != 0, d[6]),
+        decay_of(b[7] != 0, d[7]),
+    ]
+}
+
+fn active_row(l: [u16; 8], a: [u16; 8]) -> [u16; 8]
+    ensures { λ r. ⌜ r ≡ eight (λ k. activeAfter (getD l k 0) (getD a k 0)) ⌝ }
+{
+    [
+        active_of(l[0], a[0]),
+        active_of(l[1], a[1]),
+        active_of(l[2], a[2]),
+        active_of(l[3], a[3]),
+        active_of(l[4], a[4]),
+        active_of(l[5], a[5]),
+        active_of(l[6], a[6]),
+        active_of(l[7], a[7]),
+    ]
+}
+
+fn remainder_row(r: [u16; 8]) -> [u16; 8]
+    ensures { λ n. ⌜ n ≡ eight (λ k. getD r k 0 - 1) ⌝ }
+{
+    [
+        down(r[0]),
+        down(r[1]),
+        down(r[2]),
+        down(r[3]),
+        down(r[4]),
+        down(r[5]),
+        down(r[6]),
+        down(r[7]),
+    ]
+}
+
+fn soak_row(a: [u16; 8], f: [u16; 8], r: [u16; 8], s: [u16; 8]) -> [u16; 8]
+    ensures { λ n. ⌜ n ≡ eight (λ k. soakAfter (good (isSet (getD a k 0)) (isSet (getD f k 0)) (getD r k 0)) (getD s k 0)) ⌝ }
+{
+    [
+        soak_of(a[0], f[0], r[0], s[0]),
+        soak_of(a[1], f[1], r[1], s[1]),
+        soak_of(a[2], f[2], r[2], s[2]),
+        soak_of(a[3], f[3], r[3], s[3]),
+        soak_of(a[4], f[4], r[4], s[4]),
+        soak_of(a[5], f[5], r[5], s[5]),
+        soak_of(a[6], f[6], r[6], s[6]),
+        soak_of(a[7], f[7], r[7], s[7]),
+    ]
+}
+
+// The rule `watched`: steps 1 and 2, in the rows where they lie.
+pub fn watched(
+    mask: u8,
+    level: &mut [u16; 8],
+    decay: &mut [u16; 8],
+    active: &mut [u16; 8],
+    frequency: &[u16; 8],
+    remainder: &mut [u16; 8],
+    soak: &mut [u16; 8],
+)
+    ensures { λ _. ⌜ inputsOf (leaving level decay active (now (frequency .entry)) remainder soak) ≡ Tick.watched mask (inputsOf (entering level decay active (now (frequency .entry)) remainder soak)) ⌝ }
+{
+    let b = irregular_row(mask);
+    let l0 = *level;
+    let d0 = *decay;
+    let a0 = *active;
+    let f0 = *frequency;
+    let r0 = *remainder;
+    let s0 = *soak;
+    let l = level_row(b, l0, d0);
+    let d = decay_row(b, d0);
+    let a = active_row(l, a0);
+    let r = remainder_row(r0);
+    let s = soak_row(a, f0, r, s0);
+    *level = l;
+    *decay = d;
+    *active = a;
+    *remainder = r;
+    *soak = s;
 }

@@ -17,9 +17,9 @@ returns c =
     let f = e .before in
     let g = f .before in
     let h = g .before in
-    let last = c .weigh8 .ensures .0 ∙ sym (add-zero (if h .before .before .args .a then 1 else 0)) in
-    λ i. h .before .weigh .ensures .0 i + (h .weigh2 .ensures .0 i + (g .weigh3 .ensures .0 i + (f .weigh4 .ensures .0 i
-    + (e .weigh5 .ensures .0 i + (d .weigh6 .ensures .0 i + (b .weigh7 .ensures .0 i + last i))))))
+    let last = c .weigh168 .ensures .0 ∙ sym (add-zero (if h .before .before .args .a then 1 else 0)) in
+    λ i. h .before .weigh16 .ensures .0 i + (h .weigh162 .ensures .0 i + (g .weigh163 .ensures .0 i + (f .weigh164 .ensures .0 i
+    + (e .weigh165 .ensures .0 i + (d .weigh166 .ensures .0 i + (b .weigh167 .ensures .0 i + last i))))))
 
 pub mask-of-spec : {M : Type 1} → statement M
 mask-of-spec =
@@ -33,6 +33,7 @@ mask-of-spec =
     (λ c κs. tt)
     (λ c κs. tt)
     (λ c κs. tt)
+    (λ c. search needs)
     (λ c. search needs)
     (λ c. search needs)
     (λ c. search needs)

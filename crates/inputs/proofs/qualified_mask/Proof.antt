@@ -8,19 +8,19 @@ use Rattle.inputs.proofs.qualified_mask.Tie as tie
 
 returns : tie.Need-returns
 unfolding qualified maskUpTo inputsOf
-returns c = c .mask-of .ensures
+returns c m = c .mask-of .ensures
 
 pub qualified-mask-spec : {M : Type 1} → statement M
 qualified-mask-spec =
     tie.close
     (tie.spec
-    (λ c. search needs)
-    (λ c. search needs)
-    (λ c. search needs)
-    (λ c. search needs)
-    (λ c. search needs)
-    (λ c. search needs)
-    (λ c. search needs)
-    (λ c. search needs)
+    (search needs)
+    (search needs)
+    (search needs)
+    (search needs)
+    (search needs)
+    (search needs)
+    (search needs)
+    (search needs)
     (λ c κs. tt)
     returns)

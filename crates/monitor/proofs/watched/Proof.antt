@@ -1,42 +1,57 @@
--- The rule goes through the eight inputs one by one, and each is that of its place.
-use Prim.Native.Nat.{ℕ}
-use mathlib.Core.Path.{ap, _∙_}
-use mathlib.Core.List.{[], _∷_}
-use native.Mathlib.Omega.{arith}
-use Rattle.rules.specs.Selection.{eachFrom}
-use Rattle.rules.specs.Tick as Tick
-use Rattle.inputs.specs.Bridge.{inputsOf}
+-- Each row is that of the rule's numbers, and by places these are the rule's inputs (`rows-after`).
+use mathlib.Core.Path.{_∙_}
+use lib.ListN.{getD}
+use denote.Ref.{now}
+use Rattle.rules.specs.Monitors.{bucket, levelAfter, decayAfter, good, soakAfter}
+use Rattle.inputs.specs.Bridge.{isSet, eight, inputsOf}
+use Rattle.inputs.specs.declared.Monitors.{Monitors}
+use Rattle.monitor.specs.Rows.{activeAfter}
+use Rattle.monitor.proofs.Rows.{rows-after}
 use Rattle.monitor.proofs.watched.Statement.{statement}
 use Rattle.monitor.proofs.watched.Tie as tie
 
 returns : tie.Need-returns
-unfolding eachFrom Tick.watched inputsOf
 returns c =
-    let c7 = c .before in
-    let c6 = c7 .before in
-    let c5 = c6 .before in
-    let c4 = c5 .before in
-    let c3 = c4 .before in
-    let c2 = c3 .before in
-    let c1 = c2 .before in
-    let c0 = c1 .before in
-    c .gathered .ensures
-    ∙ (λ i. c0 .watched-at .ensures i ∷ c1 .watched-at2 .ensures i ∷ c2 .watched-at3 .ensures i ∷ c3 .watched-at4 .ensures i
-    ∷ c4 .watched-at5 .ensures i ∷ c5 .watched-at6 .ensures i ∷ c6 .watched-at7 .ensures i ∷ c7 .watched-at8 .ensures i ∷ [])
-    ∙ ap (λ (b : ℕ). Tick.watched b (inputsOf (c0 .before .before .args .m))) (c0 .before .wide16 .ensures .0)
+    let cr = c .before in
+    let ca = cr .before in
+    let cd = ca .before in
+    let cl = cd .before in
+    let cb = cl .before .before .before .before .before .before .before in
+    let x = cb .before .args in
+    let m : Monitors = record {
+      level = now (x .level);
+      decay = now (x .decay);
+      active = now (x .active);
+      frequency = now (x .frequency);
+      remainder = now (x .remainder);
+      soak = now (x .soak);
+    } in
+    let b = cb .irregular-row .ensures in
+    let level = cl .level-row .ensures
+    ∙ (λ i. eight (λ k. levelAfter bucket (isSet (getD (b i) k 0)) (getD (m .level) k 0) (getD (m .decay) k 0))) in
+    let decay = cd .decay-row .ensures ∙ (λ i. eight (λ k. decayAfter bucket (isSet (getD (b i) k 0)) (getD (m .decay) k 0))) in
+    let active = ca .active-row .ensures ∙ (λ i. eight (λ k. activeAfter (getD (level i) k 0) (getD (m .active) k 0))) in
+    let remainder = cr .remainder-row .ensures in
+    let soak = c .soak-row .ensures
+    ∙ (λ i. eight (λ k. soakAfter (good (isSet (getD (active i) k 0)) (isSet (getD (m .frequency) k 0)) (getD (remainder i) k 0)) (getD (m .soak) k 0))) in
+    (λ i. inputsOf (record {
+      level = level i;
+      decay = decay i;
+      active = active i;
+      frequency = m .frequency;
+      remainder = remainder i;
+      soak = soak i;
+    }))
+    ∙ rows-after (x .mask) m
 
 pub watched-spec : {M : Type 1} → statement M
 watched-spec =
     tie.close
     (tie.spec
     (λ c κs. tt)
-    (λ c κs. omega arith)
-    (λ c κs. omega arith)
-    (λ c κs. omega arith)
-    (λ c κs. omega arith)
-    (λ c κs. omega arith)
-    (λ c κs. omega arith)
-    (λ c κs. omega arith)
-    (λ c κs. omega arith)
+    (λ c κs. tt)
+    (λ c κs. tt)
+    (λ c κs. tt)
+    (λ c κs. tt)
     (λ c κs. tt)
     returns)
