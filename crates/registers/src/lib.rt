@@ -3,6 +3,7 @@
 // The bytes of 0x26 and of the registers that are read only stay 0: what these show is kept elsewhere.
 ghost use mathlib.Core.Path.{_≡_};
 ghost use Prim.Native.Nat.{_+_};
+ghost use lib.ListN.{length};
 ghost use Rattle.rules.specs.Settings as settings;
 ghost use Rattle.rules.specs.Registers as map;
 ghost use Rattle.rules.specs.Registers.{settingsFrom, freshTable};
@@ -164,37 +165,46 @@ pub fn fresh_registers() -> [u8; 27]
 
 // ---- the settings
 
+// The registers are 27 bytes: what their type says, as a fact. It costs nothing when compiled.
+pub fn bytes(regs: [u8; 27]) -> usize
+    ensures { λ r. ⌜ length regs ≡ 27 ⌝ }
+{
+    regs.len()
+}
+
 // The setting at an address; 0 at an address that is not in the map.
-pub fn setting(regs: [u8; 27], a: u8) -> u8
-    ensures { λ r. ⌜ r ≡ settingsFrom regs a ⌝ }
+pub fn setting(regs: &[u8; 27], a: u8) -> u8
+    ensures { λ r. ⌜ r ≡ settingsFrom (now (regs .entry)) a ⌝ }
 {
     let k = place(a);
     if k < 27 {
         return regs[k];
     }
+    bytes(*regs);
     0
 }
 
 // 0x40: automatic control.
-pub fn is_automatic(regs: [u8; 27]) -> bool
-    ensures { λ r. ⌜ r ≡ settings.automatic (settingsFrom regs) ⌝ }
+pub fn is_automatic(regs: &[u8; 27]) -> bool
+    ensures { λ r. ⌜ r ≡ settings.automatic (settingsFrom (now (regs .entry))) ⌝ }
 {
     setting(regs, 0x40) == 1
 }
 
 // The register of candidate c, 0x1b + c: 0x1c to 0x23 for the inputs 1 to 8, 0x24 for Free Run, 9. An address past 255 is not in the map.
-fn own_register(regs: [u8; 27], c: u8) -> u8
-    ensures { λ r. ⌜ r ≡ settingsFrom regs (0x1b + c) ⌝ }
+fn own_register(regs: &[u8; 27], c: u8) -> u8
+    ensures { λ r. ⌜ r ≡ settingsFrom (now (regs .entry)) (0x1b + c) ⌝ }
 {
     if c <= 228 {
         return setting(regs, 0x1b + c);
     }
+    bytes(*regs);
     0
 }
 
 // Bit 3 of candidate c's register: revertive.
-pub fn is_revertive(regs: [u8; 27], c: u8) -> bool
-    ensures { λ r. ⌜ r ≡ settings.revertive (settingsFrom regs) c ⌝ }
+pub fn is_revertive(regs: &[u8; 27], c: u8) -> bool
+    ensures { λ r. ⌜ r ≡ settings.revertive (settingsFrom (now (regs .entry))) c ⌝ }
 {
     own_register(regs, c) / 8 % 2 == 1
 }

@@ -1,6 +1,6 @@
 -- What a write is turned down with, and what it leaves of the settings.
 use Prim.Native.Nat.{ℕ, _≤_, _<_}
-use mathlib.Core.Path.{_≡_, refl, _∙_}
+use mathlib.Core.Path.{_≡_, _∙_}
 use mathlib.Core.Bool.{Bool, true, not}
 use mathlib.Core.List.{List}
 use native.Mathlib.Omega.{arith}
@@ -10,8 +10,6 @@ use lib.Seq.{getD-set-same, getD-set-other}
 use borrow.Author.Tests.{lt-ltb, le-ltb, eqb-true, eqb-false, not-false}
 use Rattle.rules.specs.Words.{if_then_else_}
 use Rattle.rules.specs.Settings.{Settings}
-use Rattle.rules.specs.History.{held}
-use Rattle.rules.specs.State.{State, Ready}
 use Rattle.rules.specs.Registers.{place, inMap, stored, written, settingsFrom}
 use Rattle.rules.specs.Refusals.{writeRefusal}
 use Rattle.rules.proofs.Tests.{if-case, unrefused}

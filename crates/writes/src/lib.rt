@@ -7,6 +7,7 @@ ghost use Rattle.rules.specs.Words.{if_then_else_};
 ghost use Rattle.rules.specs.Registers as map;
 ghost use Rattle.rules.specs.Registers.{settingsFrom};
 ghost use Rattle.rules.specs.Refusals.{limitsRefused, commandRefused, writeRefusal};
+use registers::bytes;
 use registers::in_map;
 use registers::place;
 use registers::register_at;
@@ -21,16 +22,14 @@ fn stored(a: u8, v: u8) -> u8
 
 // The registers after a write that was not turned down, of any address but 0x26, which is a command to the history.
 // Of an address that is not in the map nothing is stored.
-pub fn written(regs: [u8; 27], a: u8, v: u8) -> [u8; 27]
-    ensures { λ r. ⌜ settingsFrom r ≡ (if map.inMap a then map.written a v (settingsFrom regs) else settingsFrom regs) ⌝ }
+pub fn written(regs: &mut [u8; 27], a: u8, v: u8)
+    ensures { λ _. ⌜ settingsFrom (now (regs .exit)) ≡ (if map.inMap a then map.written a v (settingsFrom (now (regs .entry))) else settingsFrom (now (regs .entry))) ⌝ }
 {
     let k = place(a);
-    let mut r = regs;
     if k < 27 {
-        r[k] = stored(a, v);
-        return r;
+        bytes(*regs);
+        regs[k] = stored(a, v);
     }
-    r
 }
 
 // "reject − qualification" is 6 or more.
@@ -41,8 +40,8 @@ fn limits_apart(reject: u8, qualification: u8) -> bool
 }
 
 // 4: "reject − qualification would be under 6".
-fn limits_refused(regs: [u8; 27], a: u8, v: u8) -> bool
-    ensures { λ r. ⌜ r ≡ limitsRefused (settingsFrom regs) a v ⌝ }
+fn limits_refused(regs: &[u8; 27], a: u8, v: u8) -> bool
+    ensures { λ r. ⌜ r ≡ limitsRefused (settingsFrom (now (regs .entry))) a v ⌝ }
 {
     if a == 0x44 {
         return !limits_apart(v, setting(regs, 0x45));
@@ -91,8 +90,8 @@ fn first_refusal(outside: bool, readonly: bool, above: bool, limits: bool, comma
 }
 
 // What a write is turned down with, or 0.
-pub fn write_refusal(regs: [u8; 27], a: u8, v: u8, ready: bool, held: bool) -> u8
-    ensures { λ r. ⌜ r ≡ writeRefusal (settingsFrom regs) ready held a v ⌝ }
+pub fn write_refusal(regs: &[u8; 27], a: u8, v: u8, ready: bool, held: bool) -> u8
+    ensures { λ r. ⌜ r ≡ writeRefusal (settingsFrom (now (regs .entry))) ready held a v ⌝ }
 {
     let register = register_at(a);
     first_refusal(

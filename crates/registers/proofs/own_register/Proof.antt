@@ -9,8 +9,8 @@ use Rattle.registers.proofs.own_register.Tie as tie
 
 returns-2 : tie.Need-returns-2
 returns-2 c =
-    let a = 0x1b + c .before .args .c in
-    sym (setting-outside (c .before .args .regs) a (search needs) (omega (arith, place-past a (omega arith))))
+    let a = 0x1b + c .before .before .before .args .c in
+    sym (setting-outside (c .before .before .before .args .regs .now) a (c .bytes .ensures) (omega (arith, place-past a (omega arith))))
 
 pub own-register-spec : {M : Type 1} → statement M
-own-register-spec = tie.close (tie.spec (search needs) (search needs) (search needs) returns-2)
+own-register-spec = tie.close (tie.spec (search needs) (search needs) (search needs) (search needs) returns-2)

@@ -9,10 +9,12 @@ use Rattle.registers.proofs.setting.Tie as tie
 
 returns : tie.Need-returns
 unfolding map.settingsFrom
-returns c = rw (c .before .place .ensures)
+returns c = rw (c .before .before .place .ensures)
 
 returns-2 : tie.Need-returns-2
-returns-2 c = sym (setting-outside (c .before .before .args .t1) (c .before .before .args .a) (search needs) (omega arith))
+returns-2 c =
+    let a = c .before .before .before .before .args in
+    sym (setting-outside (a .regs .now) (a .a) (c .bytes .ensures) (omega arith))
 
 pub setting-spec : {M : Type 1} → statement M
-setting-spec = tie.close (tie.spec (search needs) (search needs) returns returns-2)
+setting-spec = tie.close (tie.spec (search needs) (search needs) returns (search needs) returns-2)

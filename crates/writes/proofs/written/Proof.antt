@@ -7,12 +7,12 @@ use Rattle.writes.proofs.written.Tie as tie
 
 returns : tie.Need-returns
 returns c =
-    let a = c .before .before .before .args in
-    let k = c .before .before .place in
-    write-in (a .regs) (a .a) (a .v) (k .result) (c .stored .result) (search needs) (k .ensures) (c .stored .ensures) (c .before .if1 .taken)
+    let a = c .before .before .before .before .before .args in
+    let k = c .before .before .before .before .place in
+    write-in (a .regs .now) (a .a) (a .v) (k .result) (c .stored .result) (c .before .bytes .ensures) (k .ensures) (c .stored .ensures) (c .before .before .before .if1 .taken)
 
 returns-2 : tie.Need-returns-2
-returns-2 c = write-out (c .before .before .args .regs) (c .before .before .args .a) (c .before .before .args .v) (omega arith)
+returns-2 c = write-out (c .before .before .args .regs .now) (c .before .before .args .a) (c .before .before .args .v) (omega arith)
 
 pub written-spec : {M : Type 1} → statement M
-written-spec = tie.close (tie.spec (search needs) (search needs) (search needs) returns returns-2)
+written-spec = tie.close (tie.spec (search needs) (search needs) (search needs) (search needs) returns returns-2)
