@@ -1,19 +1,55 @@
 -- The best candidate is the number of the least key.
 use Prim.Native.Nat.{ℕ, zero, suc, _+_, _*_, _%_, _≤_, _<_, min}
-use mathlib.Core.Path.{_≡_, refl, _∙_}
+use mathlib.Core.Path.{_≡_, refl, ap, sym, _∙_}
+use mathlib.Core.List.{List}
 use mathlib.Core.Logic.{_⊎_, inl, inr}
 use mathlib.Core.Bool.{Bool, true, false, _&&_, _||_}
 use native.Mathlib.Omega.{arith}
 use lib.Dec.{eqb, ltb}
+use lib.ListN.{getD}
 use borrow.Author.Tests.{eqb-true, ltb-true, ltb-false}
-use Rattle.rules.specs.Words.{if_then_else_}
-use Rattle.rules.specs.Settings.{Settings, priority, ahead}
-use Rattle.rules.specs.Selection.{Inputs, candidate, bestUpTo, best}
-use Rattle.candidates.specs.Keys.{noKey, keyOf, leastKey}
+use Rattle.rules.specs.Words.{if_then_else_, isInput}
+use Rattle.rules.specs.Monitors.{qualified, fullSoak}
+use Rattle.rules.specs.Settings.{Settings, priority, usable, ahead}
+use Rattle.rules.specs.Selection.{Inputs, input, available, candidate, bestUpTo, best}
+use Rattle.inputs.specs.declared.Monitors.{Monitors}
+use Rattle.inputs.specs.Bridge.{eight, inputsOf, withSoak}
+use Rattle.candidates.specs.Keys.{noKey, settingsKey, keysFrom, keyOf, leastKey}
 
--- two keys are taken in one after the other
-pub in-turn : (a b rest : ℕ) → min (min a b) rest ≡ min b (min a rest)
+-- ---- the least of nine, halves compared with halves
+
+-- the least of eight keys and a ninth, one after the other
+abbrev pub leastOf : List ℕ → ℕ → ℕ
+leastOf k ninth =
+    min ninth (min (getD k 7 0) (min (getD k 6 0) (min (getD k 5 0) (min (getD k 4 0) (min (getD k 3 0) (min (getD k 2 0) (min (getD k 1 0) (getD k 0 0))))))))
+
+four : (a b c d : ℕ) → min (min a c) (min b d) ≡ min d (min c (min b a))
+four a b c d = omega arith
+
+crossed : (a b x y : ℕ) → min (min a b) (min x y) ≡ min (min a x) (min b y)
+crossed a b x y = omega arith
+
+pub swapped : (a b : ℕ) → min a b ≡ min b a
+swapped a b = omega arith
+
+in-turn : (a b rest : ℕ) → min (min a b) rest ≡ min a (min b rest)
 in-turn a b rest = omega arith
+
+pub halves : (a b c d e f g h : ℕ)
+    → min (min (min a e) (min c g)) (min (min b f) (min d h)) ≡ min h (min g (min f (min e (min d (min c (min b a))))))
+halves a b c d e f g h =
+    four (min a e) (min b f) (min c g) (min d h)
+    ∙ ap (λ x. min (min d h) (min (min c g) x)) (crossed b f a e)
+    ∙ ap (λ x. min (min d h) x) (crossed c g (min b a) (min f e))
+    ∙ crossed d h (min c (min b a)) (min g (min f e))
+    ∙ swapped rest (min h (min g (min f e)))
+    ∙ in-turn h (min g (min f e)) rest
+    ∙ ap (λ x. min h x) (in-turn g (min f e) rest ∙ ap (λ x. min g x) (in-turn f e rest))
+  where
+    rest : ℕ
+    rest = min d (min c (min b a))
+
+-- ---- the best candidate
 
 module _ (set : Settings) (inputs : Inputs) where
   -- b is the best so far, and this is its key
@@ -51,18 +87,54 @@ module _ (set : Settings) (inputs : Inputs) where
   packed zero h = inl (refl, refl)
   packed (suc k) h = next k (bestUpTo set inputs k) (leastKey set inputs k) (candidate set inputs (suc k)) (omega arith) (packed k (omega arith))
 
-  -- four candidates more
-  pub four-more : (k : ℕ) {r a b c d rest : ℕ} → r ≡ min d (min c (min b (min a rest)))
-      → a ≡ keyOf set inputs (suc k) → b ≡ keyOf set inputs (suc (suc k))
-      → c ≡ keyOf set inputs (suc (suc (suc k))) → d ≡ keyOf set inputs (suc (suc (suc (suc k))))
-      → rest ≡ leastKey set inputs k → r ≡ leastKey set inputs (suc (suc (suc (suc k))))
-  unfolding leastKey
-  four-more k e p q u v w = e ∙ (λ i. min (v i) (min (u i) (min (q i) (min (p i) (w i)))))
-
-  pub best-key : leastKey set inputs 9 % 16 ≡ best set inputs
+  best-key : leastKey set inputs 9 % 16 ≡ best set inputs
   unfolding best
   best-key = go (packed 9 (omega arith))
     where
       go : Packed 9 (bestUpTo set inputs 9) (leastKey set inputs 9) → leastKey set inputs 9 % 16 ≡ bestUpTo set inputs 9
       go (inl w) = omega (arith, w .0, w .1)
       go (inr w) = omega (arith, w .1, w .2)
+
+  -- two tests in the other order
+  gate : (u q : Bool) (k : ℕ) → (if u && q then k else noKey) ≡ (if q then (if u then k else noKey) else noKey)
+  gate true q k = refl
+  gate false true k = refl
+  gate false false k = refl
+
+  -- an input's key, if it is qualified
+  abbrev heldKey : ℕ → ℕ
+  heldKey c = if qualified (input inputs c) then settingsKey set c else noKey
+
+  held-key : (c : ℕ) → eqb c 9 ≡ false → isInput c ≡ true → keyOf set inputs c ≡ heldKey c
+  unfolding keyOf settingsKey candidate available
+  held-key c n i = rw (n, i) (gate (usable set c) (qualified (input inputs c)) (priority set c * 16 + c))
+
+  -- a key is at most noKey, so the noKey that the least key starts from may be left out
+  first-key : min (heldKey 1) noKey ≡ heldKey 1
+  unfolding settingsKey
+  first-key = go (qualified (input inputs 1)) (usable set 1)
+    where
+      go : (q u : Bool) → let k = (if q then (if u then priority set 1 * 16 + 1 else noKey) else noKey) in min k noKey ≡ k
+      go true true = omega (arith, small 1)
+      go true false = refl
+      go false u = refl
+
+  least-held : leastKey set inputs 9
+      ≡ min (settingsKey set 9) (min (heldKey 8) (min (heldKey 7) (min (heldKey 6) (min (heldKey 5) (min (heldKey 4) (min (heldKey 3) (min (heldKey 2) (heldKey 1))))))))
+  unfolding leastKey keyOf settingsKey candidate
+  least-held =
+      let first = ap (λ k. min k noKey) (held-key 1 refl refl) ∙ first-key in
+      (λ j. min (settingsKey set 9) (min (held-key 8 refl refl j) (min (held-key 7 refl refl j) (min (held-key 6 refl refl j) (min (held-key 5 refl refl j) (min (held-key 4 refl refl j) (min (held-key 3 refl refl j) (min (held-key 2 refl refl j) (first j)))))))))
+
+-- the keys of the qualified inputs
+abbrev pub heldRow : List ℕ → List ℕ → List ℕ
+heldRow s k = eight (λ j. if eqb (getD s j 0) fullSoak then getD k j 0 else noKey)
+
+-- the number of the least of them and of Free Run's key
+pub best-held : (set : Settings) (m : Monitors) (s k : List ℕ) → k ≡ keysFrom set
+    → leastOf (heldRow s k) (getD k 8 0) % 16 ≡ best set (inputsOf (withSoak m s))
+unfolding keysFrom inputsOf qualified
+best-held set m s k e =
+    ap (λ k. leastOf (heldRow s k) (getD k 8 0) % 16) e
+    ∙ ap (λ n. n % 16) (sym (least-held set (inputsOf (withSoak m s))))
+    ∙ best-key set (inputsOf (withSoak m s))

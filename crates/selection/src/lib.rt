@@ -1,16 +1,18 @@
-// Selection (document 01, step 4): the wait, and the choice of a tick. The settings are `settingsFrom` of the 27 registers.
+// Selection (document 01, step 4): the wait, and the choice of a tick. The registers, the inputs' soaks and the candidates' keys are lent for reading, and the
+// contracts hold whatever else the inputs are. The settings are `settingsFrom` of the registers.
 ghost use mathlib.Core.Path.{_≡_};
 ghost use Prim.Native.Nat.{_-_};
 ghost use Rattle.rules.specs.Settings.{delayTicks};
 ghost use Rattle.rules.specs.Selection as selection;
 ghost use Rattle.rules.specs.Selection.{waitAfter};
 ghost use Rattle.rules.specs.Registers.{settingsFrom};
-ghost use Rattle.inputs.specs.Bridge.{inputsOf};
+ghost use Rattle.inputs.specs.Bridge.{inputsOf, withSoak};
+ghost use Rattle.inputs.specs.declared.Monitors as stored;
+ghost use Rattle.candidates.specs.Keys.{keysFrom};
 ghost use Rattle.selection.specs.Bridge.{choiceOf};
 use arith::wide32;
 use candidates::best_of;
 use candidates::is_candidate;
-use inputs::Monitors;
 use inputs::qualified_at;
 use registers::is_automatic;
 use registers::is_revertive;
@@ -96,10 +98,10 @@ fn reverted(n: u32, b: u8, c: Choice) -> Choice
 // ---- the choice
 
 // The rule `reselected`: automatic control, `b` being the best candidate.
-fn reselected(m: Monitors, regs: [u8; 27], b: u8, c: Choice) -> Choice
-    ensures { λ r. ⌜ choiceOf r ≡ selection.reselected (settingsFrom regs) (inputsOf m) b (choiceOf c) ⌝ }
+fn reselected(soak: &[u16; 8], regs: &[u8; 27], b: u8, c: Choice) -> Choice
+    ensures { λ r. ⌜ ((m : stored.Monitors) → choiceOf r ≡ selection.reselected (settingsFrom (now (regs .entry))) (inputsOf (withSoak m (now (soak .entry)))) b (choiceOf c)) ⌝ }
 {
-    let stands = is_candidate(m, regs, c.selected);
+    let stands = is_candidate(soak, regs, c.selected);
     if stands {
         if c.selected == b {
             return settled(c.selected);
@@ -114,24 +116,24 @@ fn reselected(m: Monitors, regs: [u8; 27], b: u8, c: Choice) -> Choice
 }
 
 // The rule `manual`.
-fn manual(m: Monitors, regs: [u8; 27]) -> Choice
-    ensures { λ r. ⌜ choiceOf r ≡ selection.manual (settingsFrom regs) (inputsOf m) ⌝ }
+fn manual(soak: &[u16; 8], regs: &[u8; 27]) -> Choice
+    ensures { λ r. ⌜ ((m : stored.Monitors) → choiceOf r ≡ selection.manual (settingsFrom (now (regs .entry))) (inputsOf (withSoak m (now (soak .entry))))) ⌝ }
 {
     let s = setting(regs, 0x41);
-    let good = qualified_at(m, s);
+    let good = qualified_at(soak, s);
     if good {
         return settled(s);
     }
     settled(0)
 }
 
-// The rule `chosen`: the choice of a tick.
-pub fn chosen(m: Monitors, regs: [u8; 27], c: Choice) -> Choice
-    ensures { λ r. ⌜ choiceOf r ≡ selection.chosen (settingsFrom regs) (inputsOf m) (choiceOf c) ⌝ }
+// The rule `chosen`: the choice of a tick, where the keys are those of the registers.
+pub fn chosen(soak: &[u16; 8], regs: &[u8; 27], keys: &[u16; 9], c: Choice) -> Choice
+    ensures { λ r. ⌜ ((m : stored.Monitors) → now (keys .entry) ≡ keysFrom (settingsFrom (now (regs .entry))) → choiceOf r ≡ selection.chosen (settingsFrom (now (regs .entry))) (inputsOf (withSoak m (now (soak .entry)))) (choiceOf c)) ⌝ }
 {
     let auto = is_automatic(regs);
     if auto {
-        return reselected(m, regs, best_of(m, regs), c);
+        return reselected(soak, regs, best_of(soak, keys), c);
     }
-    manual(m, regs)
+    manual(soak, regs)
 }

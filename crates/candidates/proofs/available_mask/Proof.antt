@@ -17,8 +17,18 @@ use Rattle.candidates.proofs.available_mask.Tie as tie
 
 returns : tie.Need-returns
 unfolding maskUpTo available usable bit qualified inputsOf settingsFrom place
-returns c =
-    c .mask-of .ensures ∙ (λ i. maskUpTo (λ j. getD (c .before .before .before .before .before .before .before .before .both .ensures i ∷ c .before .before .before .before .before .before .before .both2 .ensures i ∷ c .before .before .before .before .before .before .both3 .ensures i ∷ c .before .before .before .before .before .both4 .ensures i ∷ c .before .before .before .before .both5 .ensures i ∷ c .before .before .before .both6 .ensures i ∷ c .before .before .both7 .ensures i ∷ c .before .both8 .ensures i ∷ []) (j - 1) false) 8)
+returns c m =
+    c .mask-of .ensures
+    ∙ (λ i. maskUpTo (λ j. getD (
+    c .before .before .before .before .before .before .before .before .both .ensures i
+    ∷ c .before .before .before .before .before .before .before .both2 .ensures i
+    ∷ c .before .before .before .before .before .before .both3 .ensures i
+    ∷ c .before .before .before .before .before .both4 .ensures i
+    ∷ c .before .before .before .before .both5 .ensures i
+    ∷ c .before .before .before .both6 .ensures i
+    ∷ c .before .before .both7 .ensures i
+    ∷ c .before .both8 .ensures i
+    ∷ []) (j - 1) false) 8)
 
 pub available-mask-spec : {M : Type 1} → statement M
 available-mask-spec =
@@ -26,20 +36,20 @@ available-mask-spec =
     (tie.spec
     (search needs)
     (search needs)
+    (λ c κs. tt)
     (search needs)
+    (λ c κs. tt)
     (search needs)
+    (λ c κs. tt)
     (search needs)
+    (λ c κs. tt)
     (search needs)
+    (λ c κs. tt)
     (search needs)
+    (λ c κs. tt)
     (search needs)
+    (λ c κs. tt)
     (search needs)
-    (search needs)
-    (search needs)
-    (search needs)
-    (search needs)
-    (search needs)
-    (search needs)
-    (search needs)
-    (search needs)
-    (search needs)
+    (λ c κs. tt)
+    (λ c κs. tt)
     returns)

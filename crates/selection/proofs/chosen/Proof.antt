@@ -3,21 +3,23 @@ use mathlib.Core.Path.{ap, _∙_}
 use borrow.Author.Needs.{needs}
 use Rattle.rules.specs.Registers.{settingsFrom}
 use Rattle.rules.specs.Selection.{reselected, chosen}
-use Rattle.inputs.specs.Bridge.{inputsOf}
+use Rattle.inputs.specs.Bridge.{inputsOf, withSoak}
 use Rattle.selection.specs.Bridge.{choiceOf}
 use Rattle.selection.proofs.chosen.Statement.{statement}
 use Rattle.selection.proofs.chosen.Tie as tie
 
 returns : tie.Need-returns
 unfolding chosen
-returns c =
+returns c m e =
     let a = c .before .before .before .before .args in
+    let S = settingsFrom (a .regs .now) in
     rw (← c .before .before .before .is-automatic .ensures, c .before .before .if1 .taken)
-    (c .reselected .ensures ∙ ap (λ b. reselected (settingsFrom (a .regs)) (inputsOf (a .m)) b (choiceOf (a .c))) (c .before .best-of .ensures))
+    (c .reselected .ensures m
+    ∙ ap (λ b. reselected S (inputsOf (withSoak m (a .soak .now))) b (choiceOf (a .c))) (c .before .best-of .ensures S m e))
 
 returns-2 : tie.Need-returns-2
 unfolding chosen
-returns-2 c = rw (← c .before .before .is-automatic .ensures, c .before .if1 .left) (c .manual .ensures)
+returns-2 c m e = rw (← c .before .before .is-automatic .ensures, c .before .if1 .left) (c .manual .ensures m)
 
 pub chosen-spec : {M : Type 1} → statement M
 chosen-spec =

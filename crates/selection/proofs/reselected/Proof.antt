@@ -12,28 +12,28 @@ use Rattle.selection.proofs.reselected.Tie as tie
 
 returns : tie.Need-returns
 unfolding reselected
-returns c =
-    rw (← c .before .before .before .before .is-candidate .ensures, c .before .before .before .if1 .taken, eq-eqb _ _ (c .before .if2 .taken)) (c .settled .ensures)
+returns c m =
+    rw (← c .before .before .before .before .is-candidate .ensures m, c .before .before .before .if1 .taken, eq-eqb _ _ (c .before .if2 .taken)) (c .settled .ensures)
 
 returns-2 : tie.Need-returns-2
 unfolding reselected
-returns-2 c =
+returns-2 c m =
     let a = c .before .before .before .before .before .before .before .before .before .args in
-    let reverts : revertive (settingsFrom (a .regs)) (a .c .selected) ≡ true = sym (c .before .before .before .before .is-revertive .ensures) ∙ c .before .before .before .if3 .taken in
-    rw (← c .before .before .before .before .before .before .before .before .is-candidate .ensures, c .before .before .before .before .before .before .before .if1 .taken, ne-eqb _ _ (c .before .before .before .before .before .if2 .left), reverts)
+    let reverts : revertive (settingsFrom (a .regs .now)) (a .c .selected) ≡ true = sym (c .before .before .before .before .is-revertive .ensures) ∙ c .before .before .before .if3 .taken in
+    rw (← c .before .before .before .before .before .before .before .before .is-candidate .ensures m, c .before .before .before .before .before .before .before .if1 .taken, ne-eqb _ _ (c .before .before .before .before .before .if2 .left), reverts)
     (c .reverted .ensures ∙ ap (λ n. reverted n (a .b) (choiceOf (a .c))) (c .before .delay-ticks .ensures ∙ ap delayTicks (c .before .before .setting .ensures)))
 
 returns-3 : tie.Need-returns-3
 unfolding reselected
-returns-3 c =
+returns-3 c m =
     let a = c .before .before .before .before .before .before .before .args in
-    let stays : revertive (settingsFrom (a .regs)) (a .c .selected) ≡ false = sym (c .before .before .is-revertive .ensures) ∙ c .before .if3 .left in
-    rw (← c .before .before .before .before .before .before .is-candidate .ensures, c .before .before .before .before .before .if1 .taken, ne-eqb _ _ (c .before .before .before .if2 .left), stays)
+    let stays : revertive (settingsFrom (a .regs .now)) (a .c .selected) ≡ false = sym (c .before .before .is-revertive .ensures) ∙ c .before .if3 .left in
+    rw (← c .before .before .before .before .before .before .is-candidate .ensures m, c .before .before .before .before .before .if1 .taken, ne-eqb _ _ (c .before .before .before .if2 .left), stays)
     (c .settled2 .ensures)
 
 returns-4 : tie.Need-returns-4
 unfolding reselected
-returns-4 c = rw (← c .before .before .is-candidate .ensures, c .before .if1 .left) (c .settled3 .ensures)
+returns-4 c m = rw (← c .before .before .is-candidate .ensures m, c .before .if1 .left) (c .settled3 .ensures)
 
 pub reselected-spec : {M : Type 1} → statement M
 reselected-spec =
