@@ -4,7 +4,8 @@ ghost use mathlib.Core.Path.{_≡_};
 ghost use mathlib.Core.List.{List, []};
 ghost use lib.IntN.{ℤ, _+ℤ_};
 ghost use lib.ListN.{length};
-ghost use Rattle.rules.specs.History.{ready, held, saturated, withBlocks, openEmptied, sampled, noted, recorded, commanded, freshHistory};
+ghost use Rattle.rules.specs.History as rules;
+ghost use Rattle.rules.specs.History.{ready, held, saturated, withBlocks, openEmptied, sampled, noted, recorded, freshHistory};
 ghost use Rattle.history.specs.Bridge.{historyOf, wholeOf, pushed, Steps, Updates};
 use arith::least;
 use arith::one_to_eight;
@@ -31,12 +32,18 @@ pub struct History {
     pub backup: [i64; 64],
 }
 
-// What step 5 gives: the tally, whether a block is done, and if so its sum, which is to be pushed.
-#[repr(C)]
-pub struct Update {
-    pub tally: Tally,
-    pub done: bool,
-    pub sum: i64,
+// What step 5 gives of the tally: the tally, whether a block is done, and if so its sum, which is to be pushed.
+struct Update {
+    tally: Tally,
+    done: bool,
+    sum: i64,
+}
+
+// Sums have their 64 places: what their type says, as a fact. It costs nothing when compiled.
+pub fn places(sums: [i64; 64]) -> usize
+    ensures { λ r. ⌜ length sums ≡ 64 ⌝ }
+{
+    sums.len()
 }
 
 // ---- step 5
@@ -140,8 +147,8 @@ fn noted(policy: u8, selected: u8, t: Tally) -> Tally
     t
 }
 
-// `recorded`, step 5: `locked` says whether the tick ends Locked, and x is its sample.
-pub fn recorded(policy: u8, selected: u8, locked: bool, x: i32, t: Tally) -> Update
+// `recorded`, step 5, of the tally: `locked` says whether the tick ends Locked, and x is its sample.
+fn updated(policy: u8, selected: u8, locked: bool, x: i32, t: Tally) -> Update
     ensures { λ r. ⌜ Updates t r (recorded policy selected locked x) ⌝ }
 {
     let next = noted(policy, selected, t);
@@ -157,7 +164,7 @@ pub fn recorded(policy: u8, selected: u8, locked: bool, x: i32, t: Tally) -> Upd
 }
 
 // `pushed`: the new sum first, each other a place on, and the oldest dropped.
-pub fn push(sums: [i64; 64], x: i64) -> [i64; 64]
+fn pushed_on(sums: [i64; 64], x: i64) -> [i64; 64]
     ensures { λ r. ⌜ r ≡ pushed x sums ⌝ }
 {
     let mut r = [x; 64];
@@ -169,36 +176,57 @@ pub fn push(sums: [i64; 64], x: i64) -> [i64; 64]
     r
 }
 
+// `pushed`, where the sums lie.
+fn push(sums: &mut [i64; 64], x: i64)
+    ensures { λ _. ⌜ now (sums .exit) ≡ pushed x (now (sums .entry)) ⌝ }
+{
+    let old = *sums;
+    let new = pushed_on(old, x);
+    *sums = new;
+}
+
+// `recorded`, step 5: the sums are touched only when a block completes.
+pub fn recorded(
+    policy: u8,
+    selected: u8,
+    locked: bool,
+    x: i32,
+    t: Tally,
+    sums: &mut [i64; 64],
+) -> Tally
+    ensures { λ r. ⌜ ((backup : List ℤ) → historyOf r (now (sums .exit)) backup ≡ rules.recorded policy selected locked x (historyOf t (now (sums .entry)) backup)) ⌝ }
+{
+    let u = updated(policy, selected, locked, x, t);
+    if u.done {
+        push(sums, u.sum);
+        return u.tally;
+    }
+    u.tally
+}
+
 // ---- the commands
 
 // `commanded`: 1 copies the kept blocks to backup, 2 replaces them by the backup and empties the open block, 3 empties both; any other is only noted.
-pub fn commanded(c: u8, h: History) -> History
-    ensures { λ r. ⌜ wholeOf r ≡ commanded c (wholeOf h) ⌝ }
+pub fn commanded(c: u8, t: Tally, sums: &mut [i64; 64], backup: &mut [i64; 64]) -> Tally
+    ensures { λ r. ⌜ historyOf r (now (sums .exit)) (now (backup .exit)) ≡ rules.commanded c (historyOf t (now (sums .entry)) (now (backup .entry))) ⌝ }
 {
-    let mut next = h;
-    let mut t = h.tally;
-    t.command = c;
+    let mut next = t;
+    next.command = c;
     if c == 1 {
-        let kept = h.sums;
-        next.backup = kept;
-        t.backed = t.count;
-        next.tally = t;
+        let kept = *sums;
+        *backup = kept;
+        next.backed = t.count;
         return next;
     }
     if c == 2 {
-        let kept = h.backup;
-        next.sums = kept;
-        t.count = t.backed;
-        let refilled = open_emptied(t);
-        next.tally = refilled;
-        return next;
+        let kept = *backup;
+        *sums = kept;
+        next.count = t.backed;
+        return open_emptied(next);
     }
     if c == 3 {
-        let cleared = emptied(t);
-        next.tally = cleared;
-        return next;
+        return emptied(next);
     }
-    next.tally = t;
     next
 }
 

@@ -1,33 +1,34 @@
 -- Each arm decides the rule's tests; what is left holds by definition.
 use borrow.Author.Tests.{eq-eqb, ne-eqb}
 use borrow.Author.Needs.{needs}
+use denote.Ref.{now}
 use Rattle.rules.specs.History.{refilled, withBlocks, openEmptied, backedUp, withCommand, commanded}
 use Rattle.history.proofs.commanded.Statement.{statement}
 use Rattle.history.proofs.commanded.Tie as tie
 
 returns : tie.Need-returns
 unfolding commanded withCommand backedUp
-returns c = rw (eq-eqb (c .before .before .before .args .c) 1 (c .before .if1 .taken))
+returns c = rw (eq-eqb (c .before .before .args .c) 1 (c .before .if1 .taken))
 
 returns-2 : tie.Need-returns-2
 unfolding commanded withCommand openEmptied withBlocks refilled
 returns-2 c =
     let b = c .before .before in
-    let a = b .before .before .before .args in
-    rw (ne-eqb (a .c) 1 (b .before .if1 .left), eq-eqb (a .c) 2 (b .if2 .taken)) (c .open-emptied .ensures (a .h .backup) (a .h .backup))
+    let a = b .before .before .args in
+    rw (ne-eqb (a .c) 1 (b .before .if1 .left), eq-eqb (a .c) 2 (b .if2 .taken)) (c .open-emptied .ensures (now (a .backup)) (now (a .backup)))
 
 returns-3 : tie.Need-returns-3
 unfolding commanded withCommand withBlocks refilled
 returns-3 c =
     let b = c .before in
-    let a = b .before .before .before .before .args in
+    let a = b .before .before .before .args in
     rw (ne-eqb (a .c) 1 (b .before .before .if1 .left), ne-eqb (a .c) 2 (b .before .if2 .left), eq-eqb (a .c) 3 (b .if3 .taken))
-    (c .emptied .ensures (a .h .sums) (a .h .backup))
+    (c .emptied .ensures (now (a .sums)) (now (a .backup)))
 
 returns-4 : tie.Need-returns-4
 unfolding commanded withCommand
 returns-4 c =
-    let a = c .before .before .before .before .args in
+    let a = c .before .before .before .args in
     rw (ne-eqb (a .c) 1 (c .before .before .if1 .left), ne-eqb (a .c) 2 (c .before .if2 .left), ne-eqb (a .c) 3 (c .if3 .left))
 
 pub commanded-spec : {M : Type 1} → statement M
