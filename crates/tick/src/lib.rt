@@ -1,163 +1,106 @@
-// The core of the unit's state (document 01): the five steps of a tick, and what a measurement, a Hit and a setting change in it.
-// Each contract is an equation with a rule of crates/rules/specs through specs/Bridge.antt; the rule is named above the function.
+// A tick (document 01): its five steps in order, each by the function of its rule. What a tick changes in arrays lies with the caller and is changed there; the
+// numbers go by value.
 ghost use mathlib.Core.Path.{_≡_};
+ghost use mathlib.Core.Bool.{_&&_};
 ghost use mathlib.Core.List.{List};
 ghost use lib.IntN.{ℤ};
-ghost use Rattle.rules.specs.Words.{if_then_else_};
+ghost use lib.ListN.{length};
+ghost use Rattle.rules.specs.Words.{if_then_else_, isTracked};
+ghost use Rattle.rules.specs.Monitors.{lockAlarmed};
+ghost use Rattle.rules.specs.Pll.{alarmDue};
+ghost use Rattle.rules.specs.Pll as pll;
+ghost use Rattle.rules.specs.Selection.{altered};
 ghost use Rattle.rules.specs.Tick as rules;
-ghost use Rattle.rules.specs.Tick.{inputsAfter, loopAfter, steps1to4};
-ghost use Rattle.rules.specs.Registers.{inMap, written, settingsFrom};
-ghost use Rattle.rules.specs.Sheet.{signedByte};
-ghost use Rattle.rules.specs.Run.{afterMeasurement, afterHit};
-ghost use Rattle.inputs.specs.Bridge.{inputsOf};
+ghost use Rattle.rules.specs.Registers.{settingsFrom};
+ghost use Rattle.inputs.specs.Bridge.{inputsOf, withLockAlarms, entering, leaving};
+ghost use Rattle.inputs.specs.declared.Monitors as stored;
+ghost use Rattle.candidates.specs.Keys.{keysFrom};
 ghost use Rattle.pll.specs.Bridge.{loopOf};
-ghost use Rattle.tick.specs.Bridge.{stateOf, Changes, Steps, Ticks, withSettings};
+ghost use Rattle.tick.specs.Bridge.{stateOf};
 use arith::both;
 use arith::one_to_eight;
 use history::Tally;
-use inputs::Monitors;
 use pll::Loop;
 use selection::Choice;
 
-// What a tick changes, and the registers. The kept sums and the backup's are held beside it.
+// The numbers of the state that are in no array: what a tick takes and gives by value.
 #[repr(C)]
 pub struct Core {
-    pub monitors: Monitors,
     pub tally: Tally,
     pub choice: Choice,
     pub holding: u32,
     pub pll: Loop,
-    pub regs: [u8; 27],
 }
 
-// What a tick gives: the core, whether a block is done, and if so its sum, which is to be pushed.
-#[repr(C)]
-pub struct Ticked {
-    pub core: Core,
-    pub done: bool,
-    pub sum: i64,
-}
-
-// ---- a tick
-
-// The rule `loopAfter`, step 3: "Only if a reference 1 to 8 is selected when the tick begins."
-fn loop_after(lock: bool, k: Core) -> Loop
-    ensures { λ r. ⌜ ((sums backup : List ℤ) → loopOf r ≡ loopAfter lock (stateOf k sums backup)) ⌝ }
+// Step 3: "Only if a reference 1 to 8 is selected when the tick begins."
+fn looped(lock: bool, selected: u8, p: Loop) -> Loop
+    ensures { λ r. ⌜ loopOf r ≡ (if isTracked selected then pll.looped lock (loopOf p) else loopOf p) ⌝ }
 {
-    let p = k.pll;
-    let tracked = one_to_eight(k.choice.selected);
+    let tracked = one_to_eight(selected);
     if tracked {
         return pll::looped(lock, p);
     }
     p
 }
 
-// The rule `inputsAfter`: the monitors after steps 1 to 3.
-fn inputs_after(mask: u8, lock: bool, k: Core) -> Monitors
-    ensures { λ r. ⌜ ((sums backup : List ℤ) → inputsOf r ≡ inputsAfter mask lock (stateOf k sums backup)) ⌝ }
+// Step 3: "Unlock run 782 (100 s) sets that input's lock alarm".
+fn alarmed(selected: u8, p: Loop, remainder: &mut [u16; 8], soak: &mut [u16; 8])
+    ensures { λ _. ⌜ ((m : stored.Monitors) → inputsOf (withLockAlarms m (now (remainder .exit)) (now (soak .exit))) ≡ (if isTracked selected && alarmDue (loopOf p) then altered lockAlarmed selected (inputsOf (withLockAlarms m (now (remainder .entry)) (now (soak .entry)))) else inputsOf (withLockAlarms m (now (remainder .entry)) (now (soak .entry))))) ⌝ }
 {
-    let m = monitor::watched(k.monitors, mask);
-    let due = both(
-        one_to_eight(k.choice.selected),
-        pll::alarm_due(loop_after(lock, k)),
-    );
+    let due = both(one_to_eight(selected), pll::alarm_due(p));
     if due {
-        return inputs::alarm(m, k.choice.selected);
+        inputs::alarm(remainder, soak, selected);
+        return;
     }
-    m
 }
 
-// The rule `steps1to4`.
-fn steps_1_to_4(mask: u8, lock: bool, k: Core) -> Core
-    ensures { λ r. ⌜ Steps k r (steps1to4 mask lock) ⌝ }
+// The rule `ticked`, where the keys are those of the registers.
+pub fn tick(
+    mask: u8,
+    lock: bool,
+    x: i32,
+    k: Core,
+    level: &mut [u16; 8],
+    decay: &mut [u16; 8],
+    active: &mut [u16; 8],
+    frequency: &[u16; 8],
+    remainder: &mut [u16; 8],
+    soak: &mut [u16; 8],
+    regs: &[u8; 27],
+    keys: &[u16; 9],
+    sums: &mut [i64; 64],
+) -> Core
+    ensures { λ r. ⌜ ((backup : List ℤ) → length (now (sums .entry)) ≡ 64 → now (keys .entry) ≡ keysFrom (settingsFrom (now (regs .entry))) → stateOf r (leaving level decay active (now (frequency .entry)) remainder soak) (now (regs .entry)) (now (sums .exit)) backup ≡ rules.ticked mask lock x (stateOf k (entering level decay active (now (frequency .entry)) remainder soak) (now (regs .entry)) (now (sums .entry)) backup)) ⌝ }
 {
-    let regs = k.regs;
-    let tally = k.tally;
-    let old = k.choice;
-    let m = inputs_after(mask, lock, k);
-    let c = selection::chosen(m, regs, old);
-    let p = pll::steered(
+    // steps 1 and 2
+    monitor::watched(mask, level, decay, active, frequency, remainder, soak);
+    // step 3
+    let driven = looped(lock, k.choice.selected, k.pll);
+    alarmed(k.choice.selected, driven, remainder, soak);
+    // step 4
+    let choice = selection::chosen(soak, regs, keys, k.choice);
+    let steered = pll::steered(
         registers::is_automatic(regs),
         registers::setting(regs, 0x41),
-        history::is_ready(tally),
+        history::is_ready(k.tally),
         k.choice.selected,
-        c.selected,
-        loop_after(lock, k),
+        choice.selected,
+        driven,
     );
-    let holding = pll::holding_after(k.pll.mode, p.mode, k.holding);
-    Core {
-        monitors: m,
-        tally: tally,
-        choice: c,
-        holding: holding,
-        pll: p,
-        regs: regs,
-    }
-}
-
-// The rule `ticked`: the five steps of a tick.
-pub fn tick(mask: u8, lock: bool, x: i32, k: Core) -> Ticked
-    ensures { λ r. ⌜ Ticks k r (rules.ticked mask lock x) ⌝ }
-{
-    let mut next = steps_1_to_4(mask, lock, k);
-    let regs = next.regs;
-    let u = history::recorded(
+    let holding = pll::holding_after(k.pll.mode, steered.mode, k.holding);
+    // step 5
+    let tally = history::recorded(
         registers::setting(regs, 0x25),
-        next.choice.selected,
-        pll::is_locked(next.pll.mode),
+        choice.selected,
+        pll::is_locked(steered.mode),
         x,
-        next.tally,
+        k.tally,
+        sums,
     );
-    let t = u.tally;
-    next.tally = t;
-    Ticked {
-        core: next,
-        done: u.done,
-        sum: u.sum,
-    }
-}
-
-// ---- the other events
-
-// A measurement of input i: the rule `afterMeasurement`.
-pub fn measurement(i: u8, offset: u8, k: Core) -> Core
-    ensures { λ r. ⌜ Changes k r (afterMeasurement i (signedByte offset)) ⌝ }
-{
-    let regs = k.regs;
-    let reject = registers::setting(regs, 0x44);
-    let qualification = registers::setting(regs, 0x45);
-    let m = inputs::measure(k.monitors, i, offset, reject, qualification);
-    let mut next = k;
-    next.monitors = m;
-    next
-}
-
-// A Hit: the rule `afterHit`.
-pub fn hit(k: Core) -> Core
-    ensures { λ r. ⌜ Steps k r afterHit ⌝ }
-{
-    let regs = k.regs;
-    let m = inputs::unsoak(k.monitors, k.choice.selected);
-    let p = pll::loop_after_hit(history::is_ready(k.tally));
-    let none = selection::settled(0);
-    let t = history::open_emptied(k.tally);
     Core {
-        monitors: m,
-        tally: t,
-        choice: none,
-        holding: 0,
-        pll: p,
-        regs: regs,
+        tally: tally,
+        choice: choice,
+        holding: holding,
+        pll: steered,
     }
-}
-
-// The registers after a write of an address other than 0x26.
-pub fn set_register(a: u8, v: u8, k: Core) -> Core
-    ensures { λ r. ⌜ ((sums backup : List ℤ) → stateOf r sums backup ≡ withSettings (if inMap a then written a v (settingsFrom (k .regs)) else settingsFrom (k .regs)) (stateOf k sums backup)) ⌝ }
-{
-    let regs = k.regs;
-    let changed = writes::written(regs, a, v);
-    let mut next = k;
-    next.regs = changed;
-    next
 }

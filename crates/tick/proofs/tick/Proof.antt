@@ -1,47 +1,89 @@
--- Step 5 on the core that steps 1 to 4 leave.
-use mathlib.Core.Path.{_≡_, ap, _∙_}
-use borrow.Author.Needs.{needs}
-use Rattle.rules.specs.History.{recorded}
-use Rattle.rules.specs.Registers.{settingsFrom}
-use Rattle.rules.specs.Tick.{step5, ticked}
-use Rattle.rules.specs.Words.{if_then_else_}
-use Rattle.history.specs.Bridge.{historyOf, pushed}
-use Rattle.inputs.specs.Bridge.{inputsOf}
-use Rattle.pll.specs.Bridge.{loopOf}
-use Rattle.selection.specs.Bridge.{choiceOf}
-use Rattle.history.proofs.Sums.{stored}
-use Rattle.tick.proofs.tick.Statement.{statement}
+-- The five steps in order: what each leaves is what the next begins with.
+use mathlib.Core.Bool.{_&&_}
+use mathlib.Core.Path.{ap, _∙_}
+use denote.Ref.{now}
 use mir.Facts.{toZ-ofZ}
-use mir.Syntax.{w64}
-use mir.Val.{toZ, ofZ}
+use Rattle.rules.specs.History.{recorded}
+use Rattle.rules.specs.Monitors.{lockAlarmed}
+use Rattle.rules.specs.Pll.{locked, is, alarmDue}
+use Rattle.rules.specs.Registers.{settingsFrom}
+use Rattle.rules.specs.Selection.{Inputs, altered, chosen, steered}
+use Rattle.rules.specs.Tick.{inputsAfter, loopAfter, steps1to4, step5, holdingAfter, ticked}
+use Rattle.rules.specs.Words.{if_then_else_, isTracked}
+use Rattle.inputs.specs.Bridge.{withLockAlarms}
+use Rattle.inputs.specs.declared.Monitors.{Monitors}
+use Rattle.history.specs.Bridge.{historyOf}
+use Rattle.pll.specs.Bridge.{modeOf}
+use Rattle.selection.specs.Bridge.{choiceOf}
+use Rattle.tick.proofs.tick.Statement.{statement}
 use Rattle.tick.proofs.tick.Tie as tie
 
-returns : tie.Need-returns
-unfolding ticked step5
-returns c =
-    let n = c .before .before .before .before .before .before .steps-1-to-4 .result in
-    let u = c .before .before .recorded .result in
-    let told : toZ w64 (ofZ w64 (u .sum)) ≡ u .sum = stored (u .sum) (search needs) in
-    let updates = c .before .before .recorded .ensures in
+-- the rows after steps 1 and 2
+abbrev watchedRows : tie.After-watched → Monitors
+watchedRows c =
+    let rows = c .watched .last in
     record {
-      step = λ sums backup h.
-          let kept = historyOf (n .tally) sums backup in
-          let history = (λ i. historyOf (u .tally) (if u .done then pushed (told i) sums else sums) backup)
-          ∙ updates .step sums backup
-          ∙ (λ i. recorded (c .before .before .before .before .setting .ensures i) (n .choice .selected) (c .before .before .before .is-locked .ensures i) (toZ-ofZ (c .before .before .before .before .before .before .before .fits .x) i) kept) in
-          (λ i. record {
-            inputs = inputsOf (n .monitors);
-            settings = settingsFrom (n .regs);
-            loop = loopOf (n .pll);
-            choice = choiceOf (n .choice);
-            history = history i;
-            holding = n .holding;
-          })
-          ∙ ap (step5 (c .before .before .before .before .before .before .before .args .x)) (c .before .before .before .before .before .before .steps-1-to-4 .ensures sums backup h);
-      none = λ h. told ∙ updates .none h;
+      level = rows .1 .0;
+      decay = rows .1 .1 .0;
+      active = rows .1 .1 .1 .0;
+      frequency = now (c .before .before .before .before .before .before .args .frequency);
+      remainder = rows .1 .1 .1 .1 .1 .0;
+      soak = rows .1 .1 .1 .1 .1 .1 .0;
+    }
+
+returns : tie.Need-returns
+unfolding inputsAfter loopAfter steps1to4 step5 ticked
+returns c backup h e =
+    let kept = c .before .before in
+    let held = kept .before .before in
+    let turned = held .before in
+    let ready = turned .before in
+    let op = ready .before in
+    let auto = op .before in
+    let choosing = auto .before in
+    let alarms = choosing .before .before in
+    let driven = alarms .before .before .before in
+    let watching = driven .before in
+    let start = watching .before .before .before .before .before .before in
+    let a = start .args in
+    let k = a .k in
+    let selected = k .choice .selected in
+    let set = settingsFrom (now (a .regs)) in
+    let rows = watchedRows watching in
+    let loop = driven .looped .ensures in
+    let inputs = alarms .alarmed .ensures rows
+    ∙ (λ i. if isTracked selected && alarmDue (loop i) then altered lockAlarmed selected (watching .watched .ensures i) else watching .watched .ensures i) in
+    let after = withLockAlarms rows (alarms .alarmed .last .1 .1 .0) (alarms .alarmed .last .1 .1 .1 .0) in
+    let choice = choosing .chosen .ensures after e ∙ ap (λ (l : Inputs). chosen set l (choiceOf (k .choice))) inputs in
+    let steering = turned .steered .ensures
+    ∙ (λ i. steered (auto .is-automatic .ensures i) (op .setting .ensures i) (ready .is-ready .ensures (now (a .sums)) backup h i) selected (choice i .selected) (loop i)) in
+    let holding = held .holding-after .ensures ∙ (λ i. holdingAfter (modeOf (k .pll .mode)) (steering i .mode) (k .holding)) in
+    let tracked = kept .is-locked .ensures ∙ (λ i. is locked (steering i .mode)) in
+    let history = c .recorded .ensures backup
+    ∙ (λ i. recorded (kept .before .setting2 .ensures i) (choice i .selected) (tracked i) (toZ-ofZ (start .fits .x) i) (historyOf (k .tally) (now (a .sums)) backup)) in
+    λ i. record {
+      inputs = inputs i;
+      settings = set;
+      loop = steering i;
+      choice = choice i;
+      history = history i;
+      holding = holding i;
     }
 
 pub tick-spec : {M : Type 1} → statement M
 tick-spec =
     tie.close
-    (tie.spec (search needs) (search needs) (search needs) (search needs) returns)
+    (tie.spec
+    (λ c κs. tt)
+    (λ c κs. tt)
+    (λ c κs. tt)
+    (λ c κs. tt)
+    (λ c κs. tt)
+    (λ c κs. tt)
+    (λ c κs. tt)
+    (λ c κs. tt)
+    (λ c κs. tt)
+    (λ c κs. tt)
+    (λ c κs. tt)
+    (λ c κs. tt)
+    returns)
