@@ -3,20 +3,21 @@
 ghost use mathlib.Core.Path.{_≡_};
 ghost use mathlib.Core.Bool.{_||_};
 ghost use mathlib.Core.List.{List};
-ghost use Prim.Native.Nat.{min};
+ghost use Prim.Native.Nat.{ℕ, min};
 ghost use lib.IntN.{ℤ};
 ghost use lib.ListN.{length};
 ghost use Rattle.rules.specs.Words.{if_then_else_};
 ghost use Rattle.rules.specs.State.{Ready};
 ghost use Rattle.rules.specs.History.{value};
 ghost use Rattle.rules.specs.Reading as reading;
+ghost use Rattle.inputs.specs.declared.Monitors as stored;
 ghost use Rattle.tick.specs.Bridge.{stateOf};
 ghost use Rattle.unit.specs.Bridge.{modelOf};
 ghost use Rattle.readout.specs.Bridge.{answerOf};
 use arith::weigh;
-use history::History;
 use tick::Core;
 use unit::Unit;
+use unit::core_of;
 
 // The lesser of a number and 255.
 fn byte_of(n: u32) -> u8
@@ -30,7 +31,7 @@ fn byte_of(n: u32) -> u8
 
 // 0x27, the rule `hours`: whole hours in Holdover.
 fn hours(k: Core) -> u8
-    ensures { λ r. ⌜ ((sums backup : List ℤ) → r ≡ reading.hours (stateOf k sums backup)) ⌝ }
+    ensures { λ r. ⌜ ((m : stored.Monitors) (regs : List ℕ) (sums backup : List ℤ) → r ≡ reading.hours (stateOf k m regs sums backup)) ⌝ }
 {
     let held = pll::is_holdover(k.pll.mode);
     if held {
@@ -41,7 +42,7 @@ fn hours(k: Core) -> u8
 
 // 0x48, the rule `stateByte`: state and selected.
 pub fn state_byte(k: Core) -> u8
-    ensures { λ r. ⌜ ((sums backup : List ℤ) → r ≡ reading.stateByte (stateOf k sums backup)) ⌝ }
+    ensures { λ r. ⌜ ((m : stored.Monitors) (regs : List ℕ) (sums backup : List ℤ) → r ≡ reading.stateByte (stateOf k m regs sums backup)) ⌝ }
 {
     let mode = pll::mode_number(k.pll.mode);
     16 * mode + k.choice.selected % 16
@@ -56,7 +57,7 @@ fn either(a: bool, b: bool) -> bool
 
 // 0x49, the rule `statusByte`: alarm, not Locked, Ready, backup held.
 pub fn status_byte(k: Core) -> u8
-    ensures { λ r. ⌜ ((sums backup : List ℤ) → length sums ≡ 64 → length backup ≡ 64 → r ≡ reading.statusByte (stateOf k sums backup)) ⌝ }
+    ensures { λ r. ⌜ ((m : stored.Monitors) (regs : List ℕ) (sums backup : List ℤ) → length sums ≡ 64 → length backup ≡ 64 → r ≡ reading.statusByte (stateOf k m regs sums backup)) ⌝ }
 {
     let mode = k.pll.mode;
     let holdover = pll::is_holdover(mode);
@@ -71,16 +72,10 @@ pub fn status_byte(k: Core) -> u8
 fn value_bits(u: Unit) -> u32
     ensures { λ r. ⌜ r ≡ (if Ready (modelOf u) then reading.twos (value (modelOf u .history)) else 0) ⌝ }
 {
-    let tally = u.core.tally;
-    let ready = history::is_ready(tally);
+    let h = u.history;
+    let ready = history::is_ready(h.tally);
     if ready {
-        let sums = u.sums;
-        let backup = u.backup;
-        return value::twos(value::value(History {
-            tally: tally,
-            sums: sums,
-            backup: backup,
-        }));
+        return value::twos(value::value(h));
     }
     0
 }
@@ -89,21 +84,24 @@ fn value_bits(u: Unit) -> u32
 fn shown(u: Unit, a: u8) -> u8
     ensures { λ r. ⌜ r ≡ reading.shown (modelOf u) a ⌝ }
 {
-    let regs = u.core.regs;
+    let m = u.monitors;
+    let soak = m.soak;
+    let regs = u.regs;
+    let k = core_of(u);
     if a == 0x27 {
-        return hours(u.core);
+        return hours(k);
     }
     if a == 0x46 {
-        return inputs::qualified_mask(u.core.monitors);
+        return inputs::qualified_mask(&soak);
     }
     if a == 0x47 {
-        return candidates::available_mask(u.core.monitors, regs);
+        return candidates::available_mask(&soak, &regs);
     }
     if a == 0x48 {
-        return state_byte(u.core);
+        return state_byte(k);
     }
     if a == 0x49 {
-        return status_byte(u.core);
+        return status_byte(k);
     }
     if a == 0x4a {
         return (value_bits(u) % 256) as u8;
@@ -117,22 +115,22 @@ fn shown(u: Unit, a: u8) -> u8
     if a == 0x4d {
         return (value_bits(u) / 16_777_216 % 256) as u8;
     }
-    candidates::available_count(u.core.monitors, regs)
+    candidates::available_count(&soak, &regs)
 }
 
 // A register of the map: the rule `content`.
 fn content(u: Unit, a: u8) -> u8
     ensures { λ r. ⌜ r ≡ reading.content (modelOf u) a ⌝ }
 {
-    let regs = u.core.regs;
+    let regs = u.regs;
     let row = registers::register_at(a);
     if row.readonly {
         return shown(u, a);
     }
     if a == 0x26 {
-        return u.core.tally.command;
+        return u.history.tally.command;
     }
-    registers::setting(regs, a)
+    registers::setting(&regs, a)
 }
 
 // What a read gives: the number, and the byte.

@@ -1,28 +1,36 @@
 // The unit (document 01): its whole state, and what each event gives: a number, and the state after it.
+// The arrays of the state are lent and changed where they lie, the numbers go by value. A refusal leaves every stored number as it was.
 // Each contract is an equation with a rule of crates/rules/specs through specs/Bridge.antt; the rule is named above the function.
 ghost use mathlib.Core.Path.{_≡_};
 ghost use mathlib.Core.Bool.{true};
 ghost use mathlib.Core.List.{List};
+ghost use Prim.Native.Nat.{ℕ};
 ghost use lib.Dec.{leb};
 ghost use lib.IntN.{ℤ, natAbs};
 ghost use lib.ListN.{length};
-ghost use Rattle.rules.specs.Tick as rules;
 ghost use Rattle.rules.specs.Registers as map;
-ghost use Rattle.rules.specs.Registers.{inMap};
-ghost use Rattle.rules.specs.History.{commanded};
+ghost use Rattle.rules.specs.Registers.{inMap, settingsFrom};
 ghost use Rattle.rules.specs.Sheet.{signedByte};
 ghost use Rattle.rules.specs.Events as events;
 ghost use Rattle.rules.specs.Events.{sampleLimit};
 ghost use Rattle.rules.specs.Run.{afterWrite, outcome};
-ghost use Rattle.history.specs.Bridge.{historyOf, pushed};
+ghost use Rattle.inputs.specs.Bridge as rows;
+ghost use Rattle.inputs.specs.Bridge.{withFrequency, withSoak};
+ghost use Rattle.inputs.specs.declared.Monitors as stored;
+ghost use Rattle.candidates.specs.Keys.{keysFrom};
 ghost use Rattle.tick.specs.Bridge.{stateOf};
-ghost use Rattle.unit.specs.Bridge.{withHistory, modelOf};
-ghost use Rattle.unit.specs.Events.{eventOf, steppedOf, outcomeOf};
+ghost use Rattle.tick.specs.declared.Core as core;
+ghost use Rattle.unit.specs.Bridge.{Gives, withTally, partsOf, modelOf};
+ghost use Rattle.unit.specs.Events.{eventOf};
+ghost use Rattle.unit.specs.Lent.{entering, leaving};
 use arith::one_to_eight;
 use history::History;
+use history::Tally;
+use history::places;
+use inputs::Monitors;
+use pll::Loop;
+use selection::Choice;
 use tick::Core;
-
-// ---- an event, with the sums lent
 
 // The four events.
 pub enum Event {
@@ -35,58 +43,13 @@ pub enum Event {
     Write(u8, u8),
 }
 
-// What an event gives, with the sums lent: its refusal number, 0 if it is accepted, and the core.
-#[repr(C)]
+// What an event gives, with the arrays lent: its refusal number, 0 if it is accepted, and the core.
 pub struct Stepped {
     pub refusal: u8,
     pub core: Core,
 }
 
-// `pushed`, where the sums lie.
-fn push_sum(sums: &mut [i64; 64], x: i64)
-    ensures { λ _. ⌜ now (sums .exit) ≡ pushed x (now (sums .entry)) ⌝ }
-{
-    let old = *sums;
-    let new = history::push(old, x);
-    *sums = new;
-}
-
-// The rule `ticked`: a completed block's sum is pushed.
-fn tick_and_push(mask: u8, lock: bool, x: i32, k: Core, sums: &mut [i64; 64]) -> Core
-    ensures { λ r. ⌜ ((backup : List ℤ) → length (now (sums .entry)) ≡ 64 → stateOf r (now (sums .exit)) backup ≡ rules.ticked mask lock x (stateOf k (now (sums .entry)) backup)) ⌝ }
-{
-    let t = tick::tick(mask, lock, x, k);
-    if t.done {
-        push_sum(sums, t.sum);
-        return t.core;
-    }
-    t.core
-}
-
-// The rule `commanded`: a write of 0x26.
-fn command(v: u8, k: Core, sums: &mut [i64; 64], backup: &mut [i64; 64]) -> Core
-    ensures { λ r. ⌜ stateOf r (now (sums .exit)) (now (backup .exit)) ≡ withHistory (commanded v (historyOf (k .tally) (now (sums .entry)) (now (backup .entry)))) (stateOf k (now (sums .entry)) (now (backup .entry))) ⌝ }
-{
-    let tally = k.tally;
-    let old = *sums;
-    let saved = *backup;
-    let h = history::commanded(
-        v,
-        History {
-            tally: tally,
-            sums: old,
-            backup: saved,
-        },
-    );
-    let t = h.tally;
-    let new = h.sums;
-    let kept = h.backup;
-    *sums = new;
-    *backup = kept;
-    let mut next = k;
-    next.tally = t;
-    next
-}
+// ---- the four events, with what each changes lent
 
 // Refusal 7: "sample out of range".
 fn in_range(x: i32) -> bool
@@ -99,12 +62,40 @@ fn in_range(x: i32) -> bool
 }
 
 // A tick, or refusal 7.
-fn on_tick(mask: u8, lock: bool, x: i32, k: Core, sums: &mut [i64; 64]) -> Stepped
-    ensures { λ r. ⌜ ((backup : List ℤ) → length (now (sums .entry)) ≡ 64 → steppedOf r (now (sums .exit)) backup ≡ outcome (stateOf k (now (sums .entry)) backup) (events.tick mask lock x)) ⌝ }
+fn on_tick(
+    mask: u8,
+    lock: bool,
+    x: i32,
+    k: Core,
+    level: &mut [u16; 8],
+    decay: &mut [u16; 8],
+    active: &mut [u16; 8],
+    frequency: &[u16; 8],
+    remainder: &mut [u16; 8],
+    soak: &mut [u16; 8],
+    regs: &[u8; 27],
+    keys: &[u16; 9],
+    sums: &mut [i64; 64],
+) -> Stepped
+    ensures { λ r. ⌜ ((backup : List ℤ) → length (now (sums .entry)) ≡ 64 → now (keys .entry) ≡ keysFrom (settingsFrom (now (regs .entry))) → Gives (record { core = k; rows = rows.entering level decay active (now (frequency .entry)) remainder soak; regs = now (regs .entry); sums = now (sums .entry); backup = backup }) (events.tick mask lock x) (r .refusal) (record { core = r .core; rows = rows.leaving level decay active (now (frequency .entry)) remainder soak; regs = now (regs .entry); sums = now (sums .exit); backup = backup })) ⌝ }
 {
     let ok = in_range(x);
     if ok {
-        let next = tick_and_push(mask, lock, x, k, sums);
+        let next = tick::tick(
+            mask,
+            lock,
+            x,
+            k,
+            level,
+            decay,
+            active,
+            frequency,
+            remainder,
+            soak,
+            regs,
+            keys,
+            sums,
+        );
         return Stepped {
             refusal: 0,
             core: next,
@@ -117,33 +108,37 @@ fn on_tick(mask: u8, lock: bool, x: i32, k: Core, sums: &mut [i64; 64]) -> Stepp
 }
 
 // A measurement, or refusal 6: "input not 1 to 8".
-fn on_measurement(i: u8, offset: u8, k: Core) -> Stepped
-    ensures { λ r. ⌜ ((sums backup : List ℤ) → steppedOf r sums backup ≡ outcome (stateOf k sums backup) (events.measurement i (signedByte offset))) ⌝ }
+fn on_measurement(i: u8, offset: u8, frequency: &mut [u16; 8], regs: &[u8; 27]) -> u8
+    ensures { λ r. ⌜ ((k : core.Core) (m : stored.Monitors) (sums backup : List ℤ) → Gives (record { core = k; rows = withFrequency m (now (frequency .entry)); regs = now (regs .entry); sums = sums; backup = backup }) (events.measurement i (signedByte offset)) r (record { core = k; rows = withFrequency m (now (frequency .exit)); regs = now (regs .entry); sums = sums; backup = backup })) ⌝ }
 {
     let ok = one_to_eight(i);
     if ok {
-        let next = tick::measurement(i, offset, k);
-        return Stepped {
-            refusal: 0,
-            core: next,
-        };
+        let reject = registers::setting(regs, 0x44);
+        let qualification = registers::setting(regs, 0x45);
+        inputs::measure(frequency, i, offset, reject, qualification);
+        return 0;
     }
-    Stepped {
-        refusal: 6,
-        core: k,
-    }
+    6
 }
 
 // A Hit, or refusal 5: "Hit with no reference 1 to 8 selected".
-fn on_hit(k: Core) -> Stepped
-    ensures { λ r. ⌜ ((sums backup : List ℤ) → length sums ≡ 64 → steppedOf r sums backup ≡ outcome (stateOf k sums backup) events.hit) ⌝ }
+fn on_hit(k: Core, soak: &mut [u16; 8]) -> Stepped
+    ensures { λ r. ⌜ ((m : stored.Monitors) (regs : List ℕ) (sums backup : List ℤ) → length sums ≡ 64 → Gives (record { core = k; rows = withSoak m (now (soak .entry)); regs = regs; sums = sums; backup = backup }) events.hit (r .refusal) (record { core = r .core; rows = withSoak m (now (soak .exit)); regs = regs; sums = sums; backup = backup })) ⌝ }
 {
     let ok = one_to_eight(k.choice.selected);
     if ok {
-        let next = tick::hit(k);
+        inputs::unsoak(soak, k.choice.selected);
+        let p = pll::loop_after_hit(history::is_ready(k.tally));
+        let none = selection::settled(0);
+        let t = history::open_emptied(k.tally);
         return Stepped {
             refusal: 0,
-            core: next,
+            core: Core {
+                tally: t,
+                choice: none,
+                holding: 0,
+                pll: p,
+            },
         };
     }
     Stepped {
@@ -153,30 +148,49 @@ fn on_hit(k: Core) -> Stepped
 }
 
 // The rule `afterWrite`: 0x26 is a command to the history, any other register of the map a setting.
-fn write_accepted(a: u8, v: u8, k: Core, sums: &mut [i64; 64], backup: &mut [i64; 64]) -> Core
-    ensures { λ r. ⌜ (inMap a ≡ true → stateOf r (now (sums .exit)) (now (backup .exit)) ≡ afterWrite a v (stateOf k (now (sums .entry)) (now (backup .entry)))) ⌝ }
+fn write_accepted(
+    a: u8,
+    v: u8,
+    t: Tally,
+    regs: &mut [u8; 27],
+    sums: &mut [i64; 64],
+    backup: &mut [i64; 64],
+) -> Tally
+    ensures { λ r. ⌜ ((k : core.Core) (m : stored.Monitors) → inMap a ≡ true → stateOf (withTally k r) m (now (regs .exit)) (now (sums .exit)) (now (backup .exit)) ≡ afterWrite a v (stateOf (withTally k t) m (now (regs .entry)) (now (sums .entry)) (now (backup .entry)))) ⌝ }
 {
     if a == 0x26 {
-        return command(v, k, sums, backup);
+        return history::commanded(v, t, sums, backup);
     }
-    tick::set_register(a, v, k)
+    writes::written(regs, a, v);
+    t
 }
 
-// A write, or the first of refusals 1, 2, 3, 4 and 8 that fits.
-fn on_write(a: u8, v: u8, k: Core, sums: &mut [i64; 64], backup: &mut [i64; 64]) -> Stepped
-    ensures { λ r. ⌜ (length (now (sums .entry)) ≡ 64 → length (now (backup .entry)) ≡ 64 → steppedOf r (now (sums .exit)) (now (backup .exit)) ≡ outcome (stateOf k (now (sums .entry)) (now (backup .entry))) (events.write a v)) ⌝ }
+// A write, or the first of refusals 1, 2, 3, 4 and 8 that fits. The keys are made anew.
+fn on_write(
+    a: u8,
+    v: u8,
+    k: Core,
+    regs: &mut [u8; 27],
+    keys: &mut [u16; 9],
+    sums: &mut [i64; 64],
+    backup: &mut [i64; 64],
+) -> Stepped
+    ensures { λ r. ⌜ ((m : stored.Monitors) → length (now (sums .entry)) ≡ 64 → length (now (backup .entry)) ≡ 64 → Gives (record { core = k; rows = m; regs = now (regs .entry); sums = now (sums .entry); backup = now (backup .entry) }) (events.write a v) (r .refusal) (record { core = r .core; rows = m; regs = now (regs .exit); sums = now (sums .exit); backup = now (backup .exit) })) ⌝ }
+    ensures { λ _. ⌜ (now (keys .entry) ≡ keysFrom (settingsFrom (now (regs .entry))) → now (keys .exit) ≡ keysFrom (settingsFrom (now (regs .exit)))) ⌝ }
 {
-    let regs = k.regs;
-    let tally = k.tally;
     let number = writes::write_refusal(
         regs,
         a,
         v,
-        history::is_ready(tally),
-        history::holds_backup(tally),
+        history::is_ready(k.tally),
+        history::holds_backup(k.tally),
     );
     if number == 0 {
-        let next = write_accepted(a, v, k, sums, backup);
+        let t = write_accepted(a, v, k.tally, regs, sums, backup);
+        let made = candidates::keys_of(regs);
+        *keys = made;
+        let mut next = k;
+        next.tally = t;
         return Stepped {
             refusal: 0,
             core: next,
@@ -188,26 +202,56 @@ fn on_write(a: u8, v: u8, k: Core, sums: &mut [i64; 64], backup: &mut [i64; 64])
     }
 }
 
-// Sums have their 64 places: what their type says, as a fact. It costs nothing when compiled.
-fn places(sums: [i64; 64]) -> usize
-    ensures { λ r. ⌜ length sums ≡ 64 ⌝ }
-{
-    sums.len()
-}
+// ---- an event
 
-// The rule `outcome`, event by event. A write takes a copy of the core and its answer is copied: lent to that call, the core would lie in memory at each tick.
-fn on_event(e: Event, k: Core, sums: &mut [i64; 64], backup: &mut [i64; 64]) -> Stepped
-    ensures { λ r. ⌜ steppedOf r (now (sums .exit)) (now (backup .exit)) ≡ outcome (stateOf k (now (sums .entry)) (now (backup .entry))) (eventOf e) ⌝ }
+// The rule `outcome`, with every array of the state lent, and the keys of the registers beside them. A write takes a copy of the core and its answer is
+// copied: lent to that call, the core would lie in memory at each tick.
+pub fn step(
+    e: Event,
+    k: Core,
+    level: &mut [u16; 8],
+    decay: &mut [u16; 8],
+    active: &mut [u16; 8],
+    frequency: &mut [u16; 8],
+    remainder: &mut [u16; 8],
+    soak: &mut [u16; 8],
+    regs: &mut [u8; 27],
+    keys: &mut [u16; 9],
+    sums: &mut [i64; 64],
+    backup: &mut [i64; 64],
+) -> Stepped
+    ensures { λ r. ⌜ (now (keys .entry) ≡ keysFrom (settingsFrom (now (regs .entry))) → Gives (entering k level decay active frequency remainder soak regs sums backup) (eventOf e) (r .refusal) (leaving (r .core) level decay active frequency remainder soak regs sums backup)) ⌝ }
+    ensures { λ _. ⌜ (now (keys .entry) ≡ keysFrom (settingsFrom (now (regs .entry))) → now (keys .exit) ≡ keysFrom (settingsFrom (now (regs .exit)))) ⌝ }
 {
     places(*sums);
     places(*backup);
     match e {
-        Event::Tick(mask, lock, x) => on_tick(mask, lock, x, k, sums),
-        Event::Measurement(i, offset) => on_measurement(i, offset, k),
-        Event::Hit => on_hit(k),
+        Event::Tick(mask, lock, x) => on_tick(
+            mask,
+            lock,
+            x,
+            k,
+            level,
+            decay,
+            active,
+            frequency,
+            remainder,
+            soak,
+            regs,
+            keys,
+            sums,
+        ),
+        Event::Measurement(i, offset) => {
+            let refused = on_measurement(i, offset, frequency, regs);
+            Stepped {
+                refusal: refused,
+                core: k,
+            }
+        }
+        Event::Hit => on_hit(k, soak),
         Event::Write(a, v) => {
             let copy = k;
-            let s = on_write(a, v, copy, sums, backup);
+            let s = on_write(a, v, copy, regs, keys, sums, backup);
             let next = s.core;
             Stepped {
                 refusal: s.refusal,
@@ -217,64 +261,69 @@ fn on_event(e: Event, k: Core, sums: &mut [i64; 64], backup: &mut [i64; 64]) -> 
     }
 }
 
-// The rule `outcome`, with the kept sums and the backup's lent; both have their 64 places after it.
-pub fn step(e: Event, k: Core, sums: &mut [i64; 64], backup: &mut [i64; 64]) -> Stepped
-    ensures { λ r. ⌜ steppedOf r (now (sums .exit)) (now (backup .exit)) ≡ outcome (stateOf k (now (sums .entry)) (now (backup .entry))) (eventOf e) ⌝ }
-    ensures { λ _. ⌜ (length (now (sums .exit)) ≡ 64) × (length (now (backup .exit)) ≡ 64) ⌝ }
-{
-    let s = on_event(e, k, sums, backup);
-    places(*sums);
-    places(*backup);
-    s
-}
-
-// The rule `outcome` of a write, with the kept sums and the backup's lent: a step of that event alone.
-pub fn write(a: u8, v: u8, k: Core, sums: &mut [i64; 64], backup: &mut [i64; 64]) -> Stepped
-    ensures { λ r. ⌜ steppedOf r (now (sums .exit)) (now (backup .exit)) ≡ outcome (stateOf k (now (sums .entry)) (now (backup .entry))) (events.write a v) ⌝ }
-    ensures { λ _. ⌜ (length (now (sums .exit)) ≡ 64) × (length (now (backup .exit)) ≡ 64) ⌝ }
+// The rule `outcome` of a write alone.
+pub fn write(
+    a: u8,
+    v: u8,
+    k: Core,
+    regs: &mut [u8; 27],
+    keys: &mut [u16; 9],
+    sums: &mut [i64; 64],
+    backup: &mut [i64; 64],
+) -> Stepped
+    ensures { λ r. ⌜ ((m : stored.Monitors) → Gives (record { core = k; rows = m; regs = now (regs .entry); sums = now (sums .entry); backup = now (backup .entry) }) (events.write a v) (r .refusal) (record { core = r .core; rows = m; regs = now (regs .exit); sums = now (sums .exit); backup = now (backup .exit) })) ⌝ }
+    ensures { λ _. ⌜ (now (keys .entry) ≡ keysFrom (settingsFrom (now (regs .entry))) → now (keys .exit) ≡ keysFrom (settingsFrom (now (regs .exit)))) ⌝ }
 {
     places(*sums);
     places(*backup);
-    let s = on_write(a, v, k, sums, backup);
-    places(*sums);
-    places(*backup);
-    s
+    on_write(a, v, k, regs, keys, sums, backup)
 }
 
 // ---- the unit
 
-// The whole state: the core, the kept block sums, newest first, and the backup's.
+// The whole state: the inputs' rows, the history, the choice, the ticks in Holdover, the PLL, and the registers.
 #[repr(C)]
 pub struct Unit {
-    pub core: Core,
-    pub sums: [i64; 64],
-    pub backup: [i64; 64],
+    pub monitors: Monitors,
+    pub history: History,
+    pub choice: Choice,
+    pub holding: u32,
+    pub pll: Loop,
+    pub regs: [u8; 27],
 }
 
 // The rule `fresh`.
 pub fn fresh() -> Unit
     ensures { λ r. ⌜ modelOf r ≡ map.fresh ⌝ }
 {
-    let h = history::fresh_history();
-    let sums = h.sums;
-    let backup = h.backup;
-    let empty = h.tally;
-    let regs = registers::fresh_registers();
     let m = inputs::fresh_monitors();
+    let h = history::fresh_history();
     let choice = selection::settled(0);
     let p = pll::fresh_loop();
-    let core = Core {
+    let regs = registers::fresh_registers();
+    Unit {
         monitors: m,
-        tally: empty,
+        history: h,
         choice: choice,
         holding: 0,
         pll: p,
         regs: regs,
-    };
-    Unit {
-        core: core,
-        sums: sums,
-        backup: backup,
+    }
+}
+
+// The numbers of a whole unit that are in no array.
+pub fn core_of(u: Unit) -> Core
+    ensures { λ r. ⌜ r ≡ partsOf u .core ⌝ }
+{
+    let h = u.history;
+    let tally = h.tally;
+    let choice = u.choice;
+    let p = u.pll;
+    Core {
+        tally: tally,
+        choice: choice,
+        holding: u.holding,
+        pll: p,
     }
 }
 
@@ -287,18 +336,58 @@ pub struct Outcome {
 
 // The rule `outcome`: an event's number, and the unit that it leaves.
 pub fn handle(e: Event, u: Unit) -> Outcome
-    ensures { λ r. ⌜ outcomeOf r ≡ outcome (modelOf u) (eventOf e) ⌝ }
+    ensures { λ r. ⌜ Gives (partsOf u) (eventOf e) (r .refusal) (partsOf (r .unit)) ⌝ }
 {
-    let mut sums = u.sums;
-    let mut backup = u.backup;
-    let s = step(e, u.core, &mut sums, &mut backup);
-    let core = s.core;
+    let m = u.monitors;
+    let mut level = m.level;
+    let mut decay = m.decay;
+    let mut active = m.active;
+    let mut frequency = m.frequency;
+    let mut remainder = m.remainder;
+    let mut soak = m.soak;
+    let mut regs = u.regs;
+    let h = u.history;
+    let mut sums = h.sums;
+    let mut backup = h.backup;
+    let mut keys = candidates::keys_of(&regs);
+    let s = step(
+        e,
+        core_of(u),
+        &mut level,
+        &mut decay,
+        &mut active,
+        &mut frequency,
+        &mut remainder,
+        &mut soak,
+        &mut regs,
+        &mut keys,
+        &mut sums,
+        &mut backup,
+    );
+    let c = s.core;
+    let tally = c.tally;
+    let choice = c.choice;
+    let p = c.pll;
     Outcome {
         refusal: s.refusal,
         unit: Unit {
-            core: core,
-            sums: sums,
-            backup: backup,
+            monitors: Monitors {
+                level: level,
+                decay: decay,
+                active: active,
+                frequency: frequency,
+                remainder: remainder,
+                soak: soak,
+            },
+            history: History {
+                tally: tally,
+                sums: sums,
+                backup: backup,
+            },
+            choice: choice,
+            holding: c.holding,
+            pll: p,
+            regs: regs,
         },
     }
 }

@@ -19,7 +19,7 @@ returns-2 c = rw (← ap (λ (r : Register). r .readonly) (c .before .before .re
 
 returns-3 : tie.Need-returns-3
 unfolding reading.content readOnly row
-returns-3 c = rw (← ap (λ (r : Register). r .readonly) (c .before .before .before .register-at .ensures), c .before .before .if1 .left, ne-eqb (c .before .before .before .before .before .args .a) 0x26 (c .before .if2 .left)) (c .setting .ensures)
+returns-3 c = rw (← ap (λ (r : Register). r .readonly) (c .before .before .before .before .register-at .ensures), c .before .before .before .if1 .left, ne-eqb (c .before .before .before .before .before .before .args .a) 0x26 (c .before .before .if2 .left)) (c .setting .ensures)
 
 pub content-spec : {M : Type 1} → statement M
 content-spec =

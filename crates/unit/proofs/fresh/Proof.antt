@@ -8,21 +8,13 @@ returns : tie.Need-returns
 unfolding fresh freshFrom
 returns c =
     λ i. record {
-      inputs = c .before .before .fresh-monitors .ensures i;
-      settings = settingsFrom (c .before .before .before .fresh-registers .ensures i);
-      loop = c .fresh-loop .ensures i;
-      choice = c .before .settled .ensures i;
-      history = c .before .before .before .before .before .before .before .fresh-history .ensures i;
+      inputs = c .before .before .before .before .fresh-monitors .ensures i;
+      settings = settingsFrom (c .fresh-registers .ensures i);
+      loop = c .before .fresh-loop .ensures i;
+      choice = c .before .before .settled .ensures i;
+      history = c .before .before .before .fresh-history .ensures i;
       holding = 0;
     }
 
 pub fresh-spec : {M : Type 1} → statement M
-fresh-spec =
-    tie.close
-    (tie.spec
-    (search needs)
-    (search needs)
-    (search needs)
-    (search needs)
-    (search needs)
-    returns)
+fresh-spec = tie.close (tie.spec (λ c κs. tt) (λ c κs. tt) (λ c κs. tt) (λ c κs. tt) (λ c κs. tt) returns)

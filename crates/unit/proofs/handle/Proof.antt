@@ -1,10 +1,16 @@
--- A step, on copies of the sums.
-use borrow.Author.Needs.{needs}
+-- A step on copies of the arrays, with the keys of the registers.
+use Rattle.unit.proofs.Given.{same-start}
 use Rattle.unit.proofs.handle.Statement.{statement}
 use Rattle.unit.proofs.handle.Tie as tie
 
 returns : tie.Need-returns
-returns c = c .before .step .ensures .0
+returns c =
+    let stepped = c .before .before .before .before in
+    let parts = stepped .before .before .before .before .before .before .before .before .before .before .before in
+    let u = parts .before .before .before .before .before .before .before .before .before .before .before .before .before .before .args .u in
+    same-start
+    (λ i. record { core = parts .core-of .ensures i; rows = u .monitors; regs = u .regs; sums = u .history .sums; backup = u .history .backup })
+    (stepped .step .ensures .0 (parts .before .keys-of .ensures))
 
 pub handle-spec : {M : Type 1} → statement M
-handle-spec = tie.close (tie.spec (search needs) returns)
+handle-spec = tie.close (tie.spec (λ c κs. tt) (λ c κs. tt) (λ c κs. tt) returns)

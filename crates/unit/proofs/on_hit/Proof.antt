@@ -1,33 +1,37 @@
--- Accepted with a reference selected, or turned down with 5.
-use Prim.Native.Nat.{ℕ}
-use mathlib.Core.Path.{_≡_, refl}
+-- Accepted with a reference 1 to 8 selected, or turned down with 5.
+use mathlib.Core.Path.{refl, ap, _∙_}
 use native.Mathlib.Omega.{arith}
-use borrow.Author.Needs.{needs}
+use Rattle.rules.specs.Events.{hit}
 use Rattle.rules.specs.Refusals.{refusal}
-use Rattle.rules.specs.Run.{effect}
-use Rattle.tick.specs.Bridge.{stateOf}
-use Rattle.unit.proofs.Outcomes.{accepted-outcome, refused-outcome}
+use Rattle.rules.specs.Registers.{settingsFrom}
+use Rattle.rules.specs.Run.{effect, afterHit}
+use Rattle.rules.specs.Selection.{unselectedLoop}
+use Rattle.unit.proofs.Given.{accepted, turned-down}
 use Rattle.unit.proofs.on_hit.Statement.{statement}
-use Rattle.rules.specs.Events as events
 use Rattle.unit.proofs.on_hit.Tie as tie
 
 returns : tie.Need-returns
-unfolding refusal effect
-returns c sums backup places =
-    let a = c .before .before .before .args in
-    let s = stateOf (a .k) sums backup in
-    let e = events.hit in
-    let number : _≡_ {A = ℕ} 0 (refusal s e) = rw (← c .before .before .one-to-eight .ensures, c .before .if1 .taken) refl in
-    accepted-outcome s e number refl (c .hit .ensures sums backup places)
+unfolding refusal effect afterHit
+returns c m regs sums backup h =
+    let loop = c .before .before in
+    let ready = loop .before in
+    let hitting = ready .before in
+    let tested = hitting .before .before in
+    accepted _ _ hit (rw (← tested .before .one-to-eight .ensures, tested .if1 .taken) refl) refl
+    (λ i. record {
+      inputs = hitting .unsoak .ensures m i;
+      settings = settingsFrom regs;
+      loop = (loop .loop-after-hit .ensures ∙ ap unselectedLoop (ready .is-ready .ensures sums backup h)) i;
+      choice = c .before .settled .ensures i;
+      history = c .open-emptied .ensures sums backup i;
+      holding = 0;
+    })
 
 returns-2 : tie.Need-returns-2
 unfolding refusal
-returns-2 c sums backup places =
-    let a = c .before .before .args in
-    let s = stateOf (a .k) sums backup in
-    let e = events.hit in
-    let number : _≡_ {A = ℕ} 5 (refusal s e) = rw (← c .before .one-to-eight .ensures, c .if1 .left) refl in
-    refused-outcome s e number (λ z. omega arith)
+returns-2 c m regs sums backup h = turned-down _ hit (rw (← c .before .one-to-eight .ensures, c .if1 .left) refl) (λ z. omega arith)
 
 pub on-hit-spec : {M : Type 1} → statement M
-on-hit-spec = tie.close (tie.spec (search needs) (search needs) returns returns-2)
+on-hit-spec =
+    tie.close
+    (tie.spec (λ c κs. tt) (λ c κs. tt) (λ c κs. tt) (λ c κs. tt) (λ c κs. tt) (λ c κs. tt) returns returns-2)

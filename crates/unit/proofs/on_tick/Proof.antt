@@ -1,39 +1,51 @@
--- Accepted in range, or turned down with 7.
-use Prim.Native.Nat.{ℕ}
+-- Accepted with a sample in range, or turned down with 7.
 use mathlib.Core.Path.{_≡_, refl, ap, _∙_}
 use native.Mathlib.Omega.{arith}
 use lib.Dec.{leb}
 use lib.IntN.{ℤ, natAbs}
-use borrow.Author.Needs.{needs}
-use Rattle.rules.specs.Events.{sampleLimit}
+use denote.Ref.{now}
+use mir.Facts.{toZ-ofZ}
+use Rattle.rules.specs.Events.{tick, sampleLimit}
 use Rattle.rules.specs.Refusals.{refusal}
 use Rattle.rules.specs.Run.{effect}
 use Rattle.rules.specs.Tick.{ticked}
-use Rattle.tick.specs.Bridge.{stateOf}
-use Rattle.unit.proofs.Outcomes.{accepted-outcome, refused-outcome}
+use Rattle.unit.specs.Bridge.{Stored, meaning}
+use Rattle.unit.proofs.Given.{accepted, turned-down}
 use Rattle.unit.proofs.on_tick.Statement.{statement}
-use denote.Ref.{now}
-use mir.Facts.{toZ-ofZ}
-use Rattle.rules.specs.Events as events
 use Rattle.unit.proofs.on_tick.Tie as tie
 
 returns : tie.Need-returns
 unfolding refusal effect
-returns c backup places =
-    let a = c .before .before .before .before .args in
-    let s = stateOf (a .k) (now (a .sums)) backup in
-    let e = events.tick (a .mask) (a .lock) (a .x) in
-    let number : _≡_ {A = ℕ} 0 (refusal s e) = rw (← ap (λ (x : ℤ). leb (natAbs x) sampleLimit) (toZ-ofZ (c .before .before .before .before .fits .x)), ← c .before .before .before .in-range .ensures, c .before .before .if1 .taken) refl in
-    accepted-outcome s e number refl (c .tick-and-push .ensures backup places ∙ ap (λ (x : ℤ). ticked (a .mask) (a .lock) x s) (toZ-ofZ (c .before .before .before .before .fits .x)))
+returns c backup h e =
+    let t = c .before .before .before .before .before .before in
+    let start = t .before .before .before in
+    let a = start .args in
+    let told = toZ-ofZ (start .fits .x) in
+    let s : Stored = record {
+      core = a .k;
+      rows =
+          record {
+            level = now (a .level);
+            decay = now (a .decay);
+            active = now (a .active);
+            frequency = now (a .frequency);
+            remainder = now (a .remainder);
+            soak = now (a .soak);
+          };
+      regs = now (a .regs);
+      sums = now (a .sums);
+      backup = backup;
+    } in
+    accepted s _ (tick (a .mask) (a .lock) (a .x))
+    (rw (← ap (λ (x : ℤ). leb (natAbs x) sampleLimit) told, ← t .before .before .in-range .ensures, t .before .if1 .taken) refl) refl
+    (c .tick .ensures backup h e ∙ ap (λ (x : ℤ). ticked (a .mask) (a .lock) x (meaning s)) told)
 
 returns-2 : tie.Need-returns-2
 unfolding refusal
-returns-2 c backup places =
+returns-2 c backup h e =
     let a = c .before .before .args in
-    let s = stateOf (a .k) (now (a .sums)) backup in
-    let e = events.tick (a .mask) (a .lock) (a .x) in
-    let number : _≡_ {A = ℕ} 7 (refusal s e) = rw (← ap (λ (x : ℤ). leb (natAbs x) sampleLimit) (toZ-ofZ (c .before .before .fits .x)), ← c .before .in-range .ensures, c .if1 .left) refl in
-    refused-outcome s e number (λ z. omega arith)
+    turned-down _ (tick (a .mask) (a .lock) (a .x))
+    (rw (← ap (λ (x : ℤ). leb (natAbs x) sampleLimit) (toZ-ofZ (c .before .before .fits .x)), ← c .before .in-range .ensures, c .if1 .left) refl) (λ z. omega arith)
 
 pub on-tick-spec : {M : Type 1} → statement M
-on-tick-spec = tie.close (tie.spec (search needs) (search needs) returns returns-2)
+on-tick-spec = tie.close (tie.spec (λ c κs. tt) (λ c κs. tt) returns returns-2)

@@ -1,55 +1,61 @@
--- Accepted when the registers' test gives 0, or turned down with its number.
+-- Accepted when the registers' test gives 0, or turned down with its number. The keys are made of the registers as they then are.
 use mathlib.Core.Path.{_≡_, refl, sym, _∙_}
 use lib.ListN.{length}
-use borrow.Author.Needs.{needs}
+use denote.Ref.{now}
+use Rattle.rules.specs.Events.{write}
 use Rattle.rules.specs.History.{held}
 use Rattle.rules.specs.Refusals.{writeRefusal, refusal}
 use Rattle.rules.specs.Registers.{settingsFrom}
 use Rattle.rules.specs.Run.{effect}
 use Rattle.rules.specs.State.{Ready}
-use Rattle.tick.specs.Bridge.{stateOf}
+use Rattle.inputs.specs.declared.Monitors.{Monitors}
 use Rattle.writes.proofs.Writes.{accepted-in-map}
-use Rattle.unit.proofs.Outcomes.{accepted-outcome, refused-outcome}
+use Rattle.unit.specs.Bridge.{Stored, meaning}
+use Rattle.unit.proofs.Given.{accepted, turned-down}
 use Rattle.unit.proofs.on_write.Statement.{statement}
-use denote.Ref.{now}
-use Rattle.rules.specs.Events as events
 use Rattle.unit.proofs.on_write.Tie as tie
 
+-- what is stored when the call begins
+abbrev found : tie.After-write-refusal → Monitors → Stored
+found c m =
+    let a = c .before .before .before .before .args in
+    record { core = a .k; rows = m; regs = now (a .regs); sums = now (a .sums); backup = now (a .backup) }
+
 -- the number, by what a write depends on
-number : (c : tie.After-write-refusal)
-    → let a = c .before .before .before .before .before .args in
+number : (c : tie.After-write-refusal) (m : Monitors)
+    → let a = c .before .before .before .before .args in
     length (now (a .sums)) ≡ 64 → length (now (a .backup)) ≡ 64
-    → c .write-refusal .result ≡ refusal (stateOf (a .k) (now (a .sums)) (now (a .backup))) (events.write (a .a) (a .v))
+    → c .write-refusal .result ≡ refusal (meaning (found c m)) (write (a .a) (a .v))
 unfolding refusal
-number c s b =
-    let a = c .before .before .before .before .before .args in
+number c m s b =
+    let a = c .before .before .before .before .args in
     let isReady = c .before .before .is-ready .ensures (now (a .sums)) (now (a .backup)) s in
     let isHeld = c .before .holds-backup .ensures (now (a .sums)) (now (a .backup)) b in
-    c .write-refusal .ensures ∙ (λ i. writeRefusal (settingsFrom (a .k .regs)) (isReady i) (isHeld i) (a .a) (a .v))
+    c .write-refusal .ensures ∙ (λ i. writeRefusal (settingsFrom (now (a .regs))) (isReady i) (isHeld i) (a .a) (a .v))
 
 returns : tie.Need-returns
 unfolding refusal effect
-returns c s b =
-    let d = c .before .before .before .before in
-    let a = d .before .before .before .before .before .args in
-    let state = stateOf (a .k) (now (a .sums)) (now (a .backup)) in
-    let is = number d s b in
-    let none = c .before .before .before .if1 .taken in
-    accepted-outcome state (events.write (a .a) (a .v)) (sym none ∙ is) refl
-    (c .write-accepted .ensures (accepted-in-map (state .settings) (Ready state) (held (state .history .backup)) (a .a) (a .v) (sym is ∙ none)))
+returns c =
+    let w = c .before .before in
+    let tested = w .before .before .before .before in
+    let d = tested .before in
+    let a = d .before .before .before .before .args in
+    let none = tested .if1 .taken in (
+      (λ m s b.
+          let is = number d m s b in
+          let state = meaning (found d m) in
+          accepted (found d m) _ (write (a .a) (a .v)) (sym none ∙ is) refl
+          (w .write-accepted .ensures (a .k) m
+          (accepted-in-map (state .settings) (Ready state) (held (state .history .backup)) (a .a) (a .v) (sym is ∙ none)))),
+      (λ keyed. c .keys-of .ensures),
+    )
 
 returns-2 : tie.Need-returns-2
-returns-2 c s b =
-    let a = c .before .before .before .before .before .before .args in
-    refused-outcome (stateOf (a .k) (now (a .sums)) (now (a .backup))) (events.write (a .a) (a .v)) (number (c .before) s b) (c .if1 .left)
+returns-2 c =
+    let d = c .before in
+    let a = d .before .before .before .before .args in
+    ((λ m s b. turned-down (found d m) (write (a .a) (a .v)) (number d m s b) (c .if1 .left)), (λ keyed. keyed))
 
 pub on-write-spec : {M : Type 1} → statement M
 on-write-spec =
-    tie.close
-    (tie.spec
-    (search needs)
-    (search needs)
-    (search needs)
-    (search needs)
-    returns
-    returns-2)
+    tie.close (tie.spec (λ c κs. tt) (λ c κs. tt) (λ c κs. tt) (λ c κs. tt) (λ c κs. tt) returns returns-2)

@@ -1,29 +1,46 @@
 -- A command changes the history alone; any other write the settings alone.
 use mathlib.Core.Path.{_∙_}
-use borrow.Author.Needs.{needs}
 use borrow.Author.Tests.{eq-eqb, ne-eqb}
+use denote.Ref.{now}
 use Rattle.rules.specs.Words.{if_then_else_}
 use Rattle.rules.specs.Registers.{written, settingsFrom}
 use Rattle.rules.specs.Run.{afterWrite}
-use Rattle.tick.specs.Bridge.{stateOf, withSettings}
+use Rattle.history.specs.Bridge.{historyOf}
+use Rattle.inputs.specs.Bridge.{inputsOf}
+use Rattle.pll.specs.Bridge.{loopOf}
+use Rattle.selection.specs.Bridge.{choiceOf}
 use Rattle.unit.proofs.write_accepted.Statement.{statement}
-use denote.Ref.{now}
 use Rattle.unit.proofs.write_accepted.Tie as tie
 
 returns : tie.Need-returns
 unfolding afterWrite
-returns c = λ m. rw (eq-eqb (c .before .before .before .before .args .a) 0x26 (c .before .before .before .if1 .taken)) (c .command .ensures)
+returns c k m known =
+    let a = c .before .before .before .before .args in
+    rw (eq-eqb (a .a) 0x26 (c .before .before .before .if1 .taken))
+    (λ i. record {
+      inputs = inputsOf m;
+      settings = settingsFrom (now (a .regs));
+      loop = loopOf (k .pll);
+      choice = choiceOf (k .choice);
+      history = c .commanded .ensures i;
+      holding = k .holding;
+    })
 
 returns-2 : tie.Need-returns-2
 unfolding afterWrite
-returns-2 c =
-    λ m.
-    let a = c .before .before .args in
-    let sums = now (a .sums) in
-    let backup = now (a .backup) in
-    let set = settingsFrom (a .k .regs) in
-    rw (ne-eqb (a .a) 0x26 (c .before .if1 .left))
-    (c .set-register .ensures sums backup ∙ (λ i. withSettings (if m i then written (a .a) (a .v) set else set) (stateOf (a .k) sums backup)))
+returns-2 c k m known =
+    let a = c .before .before .before .args in
+    let set = settingsFrom (now (a .regs)) in
+    let settings = c .written .ensures ∙ (λ i. if known i then written (a .a) (a .v) set else set) in
+    rw (ne-eqb (a .a) 0x26 (c .before .before .if1 .left))
+    (λ i. record {
+      inputs = inputsOf m;
+      settings = settings i;
+      loop = loopOf (k .pll);
+      choice = choiceOf (k .choice);
+      history = historyOf (a .t) (now (a .sums)) (now (a .backup));
+      holding = k .holding;
+    })
 
 pub write-accepted-spec : {M : Type 1} → statement M
-write-accepted-spec = tie.close (tie.spec (search needs) returns (search needs) returns-2)
+write-accepted-spec = tie.close (tie.spec (λ c κs. tt) returns (λ c κs. tt) returns-2)

@@ -1,0 +1,49 @@
+-- What is stored, as it lies in the arrays that a step is lent: when the call begins, and when it returns.
+use Prim.Native.Nat.{ℕ}
+use mathlib.Core.List.{List}
+use lib.IntN.{ℤ}
+use denote.Ref.{RefT, now}
+use denote.Triple.Both.{Both}
+use Rattle.inputs.specs.Bridge.{Row}
+use Rattle.tick.specs.declared.Core.{Core}
+use Rattle.unit.specs.Bridge.{Stored}
+
+-- an array of sums that is lent for a change
+abbrev pub Sums : Type 0
+Sums = Both (RefT (List ℤ)) (RefT (List ℤ))
+
+abbrev pub entering : Core → Row → Row → Row → Row → Row → Row → Row → Sums → Sums → Stored
+entering k level decay active frequency remainder soak regs sums backup =
+    record {
+      core = k;
+      rows =
+          record {
+            level = now (level .entry);
+            decay = now (decay .entry);
+            active = now (active .entry);
+            frequency = now (frequency .entry);
+            remainder = now (remainder .entry);
+            soak = now (soak .entry);
+          };
+      regs = now (regs .entry);
+      sums = now (sums .entry);
+      backup = now (backup .entry);
+    }
+
+abbrev pub leaving : Core → Row → Row → Row → Row → Row → Row → Row → Sums → Sums → Stored
+leaving k level decay active frequency remainder soak regs sums backup =
+    record {
+      core = k;
+      rows =
+          record {
+            level = now (level .exit);
+            decay = now (decay .exit);
+            active = now (active .exit);
+            frequency = now (frequency .exit);
+            remainder = now (remainder .exit);
+            soak = now (soak .exit);
+          };
+      regs = now (regs .exit);
+      sums = now (sums .exit);
+      backup = now (backup .exit);
+    }
