@@ -2,6 +2,9 @@
  *
  * The host owns a unit's state. It makes one with unit_fresh, lends it to unit_event for each event and to unit_read for each read, and writes it by
  * nothing else. A tick is 128 ms. Document 01 says what each event does and what each register shows.
+ *
+ * The interface is the registers, by unit_read, and the records of a run sheet. The fields of struct unit are for the eye: they may change from one version
+ * to the next, and what is said of them here holds of a unit that is kept so.
  */
 #ifndef CONTROLLER_H
 #define CONTROLLER_H
@@ -11,12 +14,14 @@
 
 #ifdef __cplusplus
 #define CONTROLLER_ASSERT(test, text) static_assert(test, text)
+#define CONTROLLER_ALIGN(type) alignof(type)
 extern "C" {
 #else
 #define CONTROLLER_ASSERT(test, text) _Static_assert(test, text)
+#define CONTROLLER_ALIGN(type) _Alignof(type)
 #endif
 
-/* The monitors, in lanes: place i - 1 is input i. A flag is 0 or 1. */
+/* The monitors, a row for each number: place i - 1 is input i. An alarm is 0 or 1. */
 struct unit_monitors {
     uint16_t level[8];     /* activity bucket: its level */
     uint16_t decay[8];     /* activity bucket: its decay count */
@@ -26,7 +31,7 @@ struct unit_monitors {
     uint16_t soak[8];      /* good ticks, 79 at most */
 };
 
-/* The history's counts; the block sums stand apart. */
+/* The history's open block and counts. */
 struct unit_tally {
     int64_t open;    /* sum of the open block */
     uint16_t filled; /* samples in the open block */
@@ -34,6 +39,13 @@ struct unit_tally {
     uint16_t backed; /* blocks in the backup */
     uint8_t last;    /* the reference 1 to 8 selected last, 0 for none */
     uint8_t command; /* the last accepted command */
+};
+
+/* The history. What lies after the sums that are in use means nothing. */
+struct unit_history {
+    struct unit_tally tally;
+    int64_t sums[64];   /* the first tally.count: the kept block sums, newest first */
+    int64_t backup[64]; /* the first tally.backed: the backup's */
 };
 
 /* The selection. */
@@ -50,28 +62,23 @@ struct unit_loop {
     uint8_t lock;    /* lock run */
 };
 
-struct unit_core {
-    struct unit_monitors monitors;
-    struct unit_tally tally;
-    struct unit_choice choice;
-    uint32_t holding; /* ticks in Holdover */
-    struct unit_loop pll;
-    uint8_t regs[27]; /* the settings, 0x1c to 0x27 and 0x40 to 0x4e */
-};
-
 /* The whole state. */
 struct unit {
-    struct unit_core core;
-    int64_t sums[64];   /* kept block sums, newest first */
-    int64_t backup[64]; /* the backup's */
+    struct unit_monitors monitors;
+    struct unit_history history;
+    struct unit_choice choice;
+    uint32_t holding; /* ticks in Holdover after the event that entered it, 255 hours at most */
+    struct unit_loop pll;
+    uint8_t regs[27]; /* a byte for each register, 0x1c to 0x27 and 0x40 to 0x4e; 0 for 0x26 and those that are read only */
 };
 
 CONTROLLER_ASSERT(sizeof(struct unit_monitors) == 96, "size of unit_monitors");
 CONTROLLER_ASSERT(sizeof(struct unit_tally) == 16, "size of unit_tally");
+CONTROLLER_ASSERT(sizeof(struct unit_history) == 1040, "size of unit_history");
 CONTROLLER_ASSERT(sizeof(struct unit_choice) == 8, "size of unit_choice");
 CONTROLLER_ASSERT(sizeof(struct unit_loop) == 4, "size of unit_loop");
-CONTROLLER_ASSERT(sizeof(struct unit_core) == 160, "size of unit_core");
 CONTROLLER_ASSERT(sizeof(struct unit) == 1184, "size of unit");
+CONTROLLER_ASSERT(CONTROLLER_ALIGN(struct unit) == 8, "alignment of unit");
 
 CONTROLLER_ASSERT(offsetof(struct unit_monitors, level) == 0, "offset of level");
 CONTROLLER_ASSERT(offsetof(struct unit_monitors, decay) == 16, "offset of decay");
@@ -85,21 +92,21 @@ CONTROLLER_ASSERT(offsetof(struct unit_tally, count) == 10, "offset of count");
 CONTROLLER_ASSERT(offsetof(struct unit_tally, backed) == 12, "offset of backed");
 CONTROLLER_ASSERT(offsetof(struct unit_tally, last) == 14, "offset of last");
 CONTROLLER_ASSERT(offsetof(struct unit_tally, command) == 15, "offset of command");
+CONTROLLER_ASSERT(offsetof(struct unit_history, tally) == 0, "offset of tally");
+CONTROLLER_ASSERT(offsetof(struct unit_history, sums) == 16, "offset of sums");
+CONTROLLER_ASSERT(offsetof(struct unit_history, backup) == 528, "offset of backup");
 CONTROLLER_ASSERT(offsetof(struct unit_choice, wait) == 0, "offset of wait");
 CONTROLLER_ASSERT(offsetof(struct unit_choice, selected) == 4, "offset of selected");
 CONTROLLER_ASSERT(offsetof(struct unit_choice, aim) == 5, "offset of aim");
 CONTROLLER_ASSERT(offsetof(struct unit_loop, unlock) == 0, "offset of unlock");
 CONTROLLER_ASSERT(offsetof(struct unit_loop, mode) == 2, "offset of mode");
 CONTROLLER_ASSERT(offsetof(struct unit_loop, lock) == 3, "offset of lock");
-CONTROLLER_ASSERT(offsetof(struct unit_core, monitors) == 0, "offset of monitors");
-CONTROLLER_ASSERT(offsetof(struct unit_core, tally) == 96, "offset of tally");
-CONTROLLER_ASSERT(offsetof(struct unit_core, choice) == 112, "offset of choice");
-CONTROLLER_ASSERT(offsetof(struct unit_core, holding) == 120, "offset of holding");
-CONTROLLER_ASSERT(offsetof(struct unit_core, pll) == 124, "offset of pll");
-CONTROLLER_ASSERT(offsetof(struct unit_core, regs) == 128, "offset of regs");
-CONTROLLER_ASSERT(offsetof(struct unit, core) == 0, "offset of core");
-CONTROLLER_ASSERT(offsetof(struct unit, sums) == 160, "offset of sums");
-CONTROLLER_ASSERT(offsetof(struct unit, backup) == 672, "offset of backup");
+CONTROLLER_ASSERT(offsetof(struct unit, monitors) == 0, "offset of monitors");
+CONTROLLER_ASSERT(offsetof(struct unit, history) == 96, "offset of history");
+CONTROLLER_ASSERT(offsetof(struct unit, choice) == 1136, "offset of choice");
+CONTROLLER_ASSERT(offsetof(struct unit, holding) == 1144, "offset of holding");
+CONTROLLER_ASSERT(offsetof(struct unit, pll) == 1148, "offset of pll");
+CONTROLLER_ASSERT(offsetof(struct unit, regs) == 1152, "offset of regs");
 
 /* A fresh unit. */
 struct unit unit_fresh(void);
@@ -109,7 +116,7 @@ struct unit unit_fresh(void);
  *   kind 1, measurement: a input 1 to 8, b offset in 0.5 ppm as a byte in two's complement, word 0
  *   kind 2, Hit:         a, b and word 0
  *   kind 3, write:       a address, b value, word 0
- * Fields that are no event give 12. A refusal leaves the unit as it was. */
+ * Fields that are no event give 12. A refusal leaves every byte of the unit as it was, padding included. */
 uint8_t unit_event(struct unit *u, uint8_t kind, uint8_t a, uint8_t b, int32_t word);
 
 /* A read of the lent unit: 256 times the refusal, plus the byte. */

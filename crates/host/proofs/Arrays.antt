@@ -6,6 +6,8 @@ use borrow.Author.Needs.{needs}
 use mir.Val.{Val}
 use denote.Laws.{Is}
 use denote.Struct.Laws as laws
+use Rattle.history.proofs.History as H
+use Rattle.history.proofs.History.Laws as H′
 use Rattle.unit.specs.declared.Unit as code
 use Rattle.unit.specs.declared.Outcome.{Outcome}
 use Rattle.unit.proofs.Outcome as O
@@ -16,8 +18,8 @@ use Rattle.host.specs.Lent.{Places}
 
 pub places-of : (u : code.Unit) (vs : List Val) → Is U.the-row u vs → Places u
 places-of u vs is =
-    let sums = laws.owed U.the-type U′.the-laws u vs is .1 in
-    let places : length (u .sums) ≡ 64 = search needs in
+    let sums = laws.owed H.the-type H′.the-laws (u .history) _ (laws.owed U.the-type U′.the-laws u vs is .1 .0) .1 in
+    let places : length (u .history .sums) ≡ 64 = search needs in
     places
 
 pub places-after : (o : Outcome) (vs : List Val) → Is O.the-row o vs → Places (o .unit)

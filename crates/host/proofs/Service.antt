@@ -39,7 +39,7 @@ held-state es u h = sym (lent-run (h .calls) (h .first) u (h .lent)) ∙ rw (h .
 
 own-ready : (u : Stored) → Places u → ownReady u ≡ Ready (modelOf u)
 unfolding ready
-own-ready u p = ready-kept (u .sums) (u .core .tally .count) p
+own-ready u p = ready-kept (u .history .sums) (u .history .tally .count) p
 
 -- DEMAND 2 OF THE UNIT
 pub agreement : Agreement

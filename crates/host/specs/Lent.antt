@@ -12,7 +12,7 @@ use Rattle.unit.specs.declared.Unit as code
 
 -- the kept sums have their 64 places
 abbrev pub Places : code.Unit → Type 0
-Places u = length (u .sums) ≡ 64
+Places u = length (u .history .sums) ≡ 64
 
 -- What `unit_fresh` says of the unit that it returns.
 pub record Made (u : code.Unit) : Type 0 where

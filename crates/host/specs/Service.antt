@@ -56,10 +56,10 @@ pub record Holds (es : List Event) (v : Stored) : Type 0 where
 
 -- "the unit's own selected and Ready": the selected number in its choice; 43 blocks or more in its tally
 abbrev pub ownSelected : Stored → ℕ
-ownSelected u = u .core .choice .selected
+ownSelected u = u .choice .selected
 
 abbrev pub ownReady : Stored → Bool
-ownReady u = leb readyBlocks (u .core .tally .count)
+ownReady u = leb readyBlocks (u .history .tally .count)
 
 -- ---- demand 2
 

@@ -1,5 +1,6 @@
 // The unit's state lent by the host (document 01: "The host owns the unit's state and lends it for each event; the event updates it and touches nothing
-// else"). Three functions are exported to C and Rust; each is thin over a function by value, and stores through the reference that it is lent.
+// else"). Three functions are exported to C and Rust; each is thin over a function by value. `unit_event` alone stores through the reference that it is
+// lent, and only if the event is accepted.
 ghost use mathlib.Core.Path.{_≡_};
 ghost use Rattle.rules.specs.Sheet.{fields};
 ghost use Rattle.host.specs.Lent.{Made, Leads, Shows};
@@ -19,14 +20,7 @@ pub fn event(u: Unit, kind: u8, a: u8, b: u8, word: i32) -> Outcome
             unit: u,
         };
     };
-    let o = unit::handle(e, u);
-    if o.refusal == 0 {
-        return o;
-    }
-    Outcome {
-        refusal: o.refusal,
-        unit: u,
-    }
+    unit::handle(e, u)
 }
 
 // A byte as a 16-bit number.
@@ -54,13 +48,15 @@ pub extern "C" fn unit_fresh() -> Unit
     unit::fresh()
 }
 
-// One event on a lent unit: the refusal number, 0 if it is accepted.
+// One event on a lent unit: the refusal number, 0 if it is accepted. A refusal stores nothing.
 #[no_mangle]
 pub extern "C" fn unit_event(u: &mut Unit, kind: u8, a: u8, b: u8, word: i32) -> u8
     ensures { λ r. ⌜ Leads (now (u .entry)) (fields kind a b word) r (now (u .exit)) ⌝ }
 {
     let o = event(*u, kind, a, b, word);
-    *u = o.unit;
+    if o.refusal == 0 {
+        *u = o.unit;
+    }
     o.refusal
 }
 

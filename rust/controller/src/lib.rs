@@ -1,9 +1,13 @@
 //! The bindings to the real controller, a static library with a C interface.
 //! The host owns the unit's state and lends it for each event.
+//!
+//! The interface is the registers, by `Unit::read`, and the records of a run
+//! sheet. The fields of `Unit` are for the eye: they may change from one version
+//! to the next. `c/controller.h` says what each holds.
 
 use std::mem::{align_of, size_of};
 
-/// What the monitors keep of each input.
+/// What the monitors keep of each input; an alarm is 0 or 1.
 #[repr(C)]
 #[derive(Clone, Copy, Debug, PartialEq, Eq)]
 pub struct Monitors {
@@ -27,6 +31,16 @@ pub struct Tally {
     pub command: u8,
 }
 
+/// The history: the first `count` of the sums are kept, the newest first, and
+/// the first `backed` of the backup's.
+#[repr(C)]
+#[derive(Clone, Copy, Debug, PartialEq, Eq)]
+pub struct History {
+    pub tally: Tally,
+    pub sums: [i64; 64],
+    pub backup: [i64; 64],
+}
+
 /// What is selected, and the reversion wait.
 #[repr(C)]
 #[derive(Clone, Copy, Debug, PartialEq, Eq)]
@@ -45,25 +59,16 @@ pub struct Loop {
     pub lock: u8,
 }
 
-/// The state but for the block sums.
-#[repr(C)]
-#[derive(Clone, Copy, Debug, PartialEq, Eq)]
-pub struct Core {
-    pub monitors: Monitors,
-    pub tally: Tally,
-    pub choice: Choice,
-    pub holding: u32,
-    pub pll: Loop,
-    pub regs: [u8; 27],
-}
-
 /// The whole state of a unit.
 #[repr(C)]
 #[derive(Clone, Copy, Debug, PartialEq, Eq)]
 pub struct Unit {
-    pub core: Core,
-    pub sums: [i64; 64],
-    pub backup: [i64; 64],
+    pub monitors: Monitors,
+    pub history: History,
+    pub choice: Choice,
+    pub holding: u32,
+    pub pll: Loop,
+    pub regs: [u8; 27],
 }
 
 const fn laid_out<T>(size: usize, align: usize) -> bool {
@@ -73,9 +78,9 @@ const fn laid_out<T>(size: usize, align: usize) -> bool {
 const _: () = {
     assert!(laid_out::<Monitors>(96, 2));
     assert!(laid_out::<Tally>(16, 8));
+    assert!(laid_out::<History>(1040, 8));
     assert!(laid_out::<Choice>(8, 4));
     assert!(laid_out::<Loop>(4, 2));
-    assert!(laid_out::<Core>(160, 8));
     assert!(laid_out::<Unit>(1184, 8));
 };
 
@@ -91,8 +96,8 @@ impl Unit {
         unsafe { unit_fresh() }
     }
 
-    /// The refusal's number, 0 if accepted, 12 if the fields are no event; the
-    /// state is unchanged by every refusal.
+    /// The refusal's number, 0 if accepted, 12 if the fields are no event. A
+    /// refusal leaves every byte of the unit as it was, padding included.
     pub fn event(&mut self, kind: u8, a: u8, b: u8, word: i32) -> u8 {
         // SAFETY: the pointer is to a whole unit, lent for the call alone; the
         // function takes every value of the other arguments.

@@ -11,8 +11,8 @@ fn offset<T>(unit: &Unit, part: &T) -> usize {
 #[test]
 fn the_fields_lie_where_the_interface_says() {
     let unit = Unit::fresh();
-    let core = &unit.core;
-    let (monitors, tally) = (&core.monitors, &core.tally);
+    let (monitors, history) = (&unit.monitors, &unit.history);
+    let tally = &history.tally;
     let places = [
         ("level", offset(&unit, &monitors.level), 0),
         ("decay", offset(&unit, &monitors.decay), 16),
@@ -26,16 +26,16 @@ fn the_fields_lie_where_the_interface_says() {
         ("backed", offset(&unit, &tally.backed), 108),
         ("last", offset(&unit, &tally.last), 110),
         ("command", offset(&unit, &tally.command), 111),
-        ("wait", offset(&unit, &core.choice.wait), 112),
-        ("selected", offset(&unit, &core.choice.selected), 116),
-        ("aim", offset(&unit, &core.choice.aim), 117),
-        ("holding", offset(&unit, &core.holding), 120),
-        ("unlock", offset(&unit, &core.pll.unlock), 124),
-        ("mode", offset(&unit, &core.pll.mode), 126),
-        ("lock", offset(&unit, &core.pll.lock), 127),
-        ("regs", offset(&unit, &core.regs), 128),
-        ("sums", offset(&unit, &unit.sums), 160),
-        ("backup", offset(&unit, &unit.backup), 672),
+        ("sums", offset(&unit, &history.sums), 112),
+        ("backup", offset(&unit, &history.backup), 624),
+        ("wait", offset(&unit, &unit.choice.wait), 1136),
+        ("selected", offset(&unit, &unit.choice.selected), 1140),
+        ("aim", offset(&unit, &unit.choice.aim), 1141),
+        ("holding", offset(&unit, &unit.holding), 1144),
+        ("unlock", offset(&unit, &unit.pll.unlock), 1148),
+        ("mode", offset(&unit, &unit.pll.mode), 1150),
+        ("lock", offset(&unit, &unit.pll.lock), 1151),
+        ("regs", offset(&unit, &unit.regs), 1152),
     ];
     for (name, found, expected) in places {
         assert_eq!(found, expected, "{}", name);

@@ -42,7 +42,7 @@ impl Inspected {
     }
 
     fn inputs_agree(&self) -> bool {
-        let monitors = &self.controller.core.monitors;
+        let monitors = &self.controller.monitors;
         self.model.inputs.iter().enumerate().all(|(i, input)| {
             monitors.level[i] == u16::from(input.level)
                 && monitors.decay[i] == u16::from(input.decay)
@@ -55,10 +55,10 @@ impl Inspected {
 
     /// The block sums are compared by their total, in whatever order they lie.
     fn history_agrees(&self) -> bool {
-        let unit = &self.controller;
-        let (tally, history) = (&unit.core.tally, &self.model.history);
-        let kept: i64 = unit.sums[..usize::from(tally.count)].iter().sum();
-        let backed: i64 = unit.backup[..usize::from(tally.backed)].iter().sum();
+        let (stored, history) = (&self.controller.history, &self.model.history);
+        let tally = &stored.tally;
+        let kept: i64 = stored.sums[..usize::from(tally.count)].iter().sum();
+        let backed: i64 = stored.backup[..usize::from(tally.backed)].iter().sum();
         let backup = history.backup.clone().unwrap_or_default();
         tally.open == history.open_sum
             && u32::from(tally.filled) == history.open_samples
@@ -71,15 +71,15 @@ impl Inspected {
     }
 
     fn selection_agrees(&self) -> bool {
-        let (core, model) = (&self.controller.core, &self.model);
+        let (unit, model) = (&self.controller, &self.model);
         let wait = model.wait;
-        core.choice.selected == model.selected
-            && core.choice.wait == wait.ticks
-            && (wait.ticks == 0 || core.choice.aim == wait.best)
-            && u64::from(core.holding) == model.holdover_ticks
-            && core.pll.mode == model.pll.state as u8
-            && core.pll.lock == model.pll.lock_run
-            && core.pll.unlock == model.pll.unlock_run
+        unit.choice.selected == model.selected
+            && unit.choice.wait == wait.ticks
+            && (wait.ticks == 0 || unit.choice.aim == wait.best)
+            && u64::from(unit.holding) == model.holdover_ticks
+            && unit.pll.mode == model.pll.state as u8
+            && unit.pll.lock == model.pll.lock_run
+            && unit.pll.unlock == model.pll.unlock_run
     }
 }
 

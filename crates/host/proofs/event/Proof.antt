@@ -1,21 +1,17 @@
--- No event, an accepted one, or one turned down.
+-- No event, or one that is handled.
 use mathlib.Core.Path.{_≡_, ap, sym, _∙_}
 use borrow.Author.Needs.{needs}
 use Rattle.rules.specs.Sheet.{event, fields}
 use Rattle.fields.specs.Bridge.{decodedOf}
 use Rattle.unit.specs.Events.{eventOf}
 use Rattle.host.proofs.Arrays.{places-of, places-after}
-use Rattle.host.proofs.Calls.{no-event, carried-out, turned-down}
+use Rattle.host.proofs.Calls.{no-event, handled}
 use Rattle.host.proofs.event.Statement.{statement}
 use mir.Facts.{toZ-ofZ}
 use Rattle.host.proofs.event.Tie as tie
-use Rattle.host.proofs.event.Reads as reads
-use Rattle.host.proofs.event.Lts as lts
-use Rattle.fields.proofs.decode.Reads as decode-reads
-use Rattle.unit.proofs.handle.Reads as handle-reads
 
 -- the event that was handled is that of the fields
-known : (c : lts.After-handle (decode-reads.Asked, decode-reads.Learnt, handle-reads.Asked, handle-reads.Learnt) reads.Pre reads.Post)
+known : (c : tie.After-handle)
     → let a = c .before .before .before .before .before .args in
     event (eventOf (c .before .before .e .given .0 .0)) ≡ fields (a .kind) (a .a) (a .b) (a .word)
 known c =
@@ -33,14 +29,8 @@ returns c =
 
 returns-2 : tie.Need-returns-2
 returns-2 c =
-    let h = c .before .before .handle in
-    carried-out _ _ _ (h .result) (known (c .before .before)) (h .ensures) (c .if1 .taken) (places-after (h .result) _ (h .ok))
-
-returns-3 : tie.Need-returns-3
-returns-3 c =
-    let h = c .before .before .handle in
-    let s = c .before .before .before .before .before .before .before in
-    turned-down (s .args .u) _ _ (h .result) (known (c .before .before)) (h .ensures) (c .if1 .left) (places-of (s .args .u) _ (s .good .0))
+    let h = c .handle in
+    handled _ _ _ (h .result) (known c) (h .ensures) (places-after (h .result) _ (h .ok))
 
 pub event-spec : {M : Type 1} → statement M
-event-spec = tie.close (tie.spec (search needs) (search needs) (search needs) returns (search needs) returns-2 returns-3)
+event-spec = tie.close (tie.spec (search needs) (search needs) (search needs) returns (search needs) returns-2)

@@ -1,0 +1,201 @@
+//! A refused event leaves every byte of the unit's memory as it was, padding
+//! included: the unit is held as bytes, and these are lent to the C function.
+#![cfg(feature = "controller")]
+
+use controller::{Choice, History, Loop, Monitors, Tally, Unit};
+use differ::coverage::Coverage;
+use differ::device::Device;
+use differ::run::{names, run_lists};
+use std::mem::size_of;
+use std::ops::Range;
+
+const SEED: u64 = 4;
+const SIZE: usize = size_of::<Unit>();
+/// The places of the bytes that are in no field.
+const PADDING: [usize; 7] = [1142, 1143, 1179, 1180, 1181, 1182, 1183];
+
+extern "C" {
+    fn unit_event(unit: *mut u8, kind: u8, a: u8, b: u8, word: i32) -> u8;
+}
+
+/// A unit as the bytes that it takes, aligned as it must be.
+#[derive(Clone)]
+#[repr(C, align(8))]
+struct Held {
+    bytes: [u8; SIZE],
+    /// What the padding is filled with; another number for each event.
+    pattern: u8,
+}
+
+impl Held {
+    fn fresh_unit() -> Held {
+        let mut held = Held {
+            bytes: [0; SIZE],
+            pattern: 0,
+        };
+        // SAFETY: the bytes are as many as a unit has, and aligned to 8.
+        unsafe { held.bytes.as_mut_ptr().cast::<Unit>().write(Unit::fresh()) };
+        held.fill_padding();
+        held
+    }
+
+    fn unit(&self) -> &Unit {
+        // SAFETY: the bytes are those of a unit, and aligned to 8.
+        unsafe { &*self.bytes.as_ptr().cast::<Unit>() }
+    }
+
+    fn fill_padding(&mut self) {
+        self.pattern = self.pattern.wrapping_add(37);
+        for place in PADDING {
+            self.bytes[place] = self.pattern ^ place as u8;
+        }
+    }
+
+    /// The refusal's number, and whether all bytes are as before.
+    fn send(&mut self, kind: u8, a: u8, b: u8, word: i32) -> (u8, bool) {
+        self.fill_padding();
+        let before = self.bytes;
+        // SAFETY: the pointer is to the bytes of a unit, lent for the call
+        // alone; the function takes every value of the other arguments.
+        let refusal = unsafe { unit_event(self.bytes.as_mut_ptr(), kind, a, b, word) };
+        (refusal, self.bytes == before)
+    }
+}
+
+#[test]
+fn the_padding_is_what_no_field_takes() {
+    let unit = Unit::fresh();
+    let fields = places_of_fields(&unit);
+    let free = |place: &usize| !fields.iter().any(|field| field.contains(place));
+    assert_eq!((0..SIZE).filter(free).collect::<Vec<_>>(), PADDING);
+}
+
+/// The places of all fields; one that is forgotten here does not compile.
+fn places_of_fields(unit: &Unit) -> Vec<Range<usize>> {
+    let Unit {
+        monitors,
+        history,
+        choice,
+        holding,
+        pll,
+        regs,
+    } = unit;
+    let Monitors {
+        level,
+        decay,
+        active,
+        frequency,
+        remainder,
+        soak,
+    } = monitors;
+    let History {
+        tally,
+        sums,
+        backup,
+    } = history;
+    let Tally {
+        open,
+        filled,
+        count,
+        backed,
+        last,
+        command,
+    } = tally;
+    let Choice {
+        wait,
+        selected,
+        aim,
+    } = choice;
+    let Loop { unlock, mode, lock } = pll;
+    let mut places = Vec::new();
+    let rows = [level, decay, active, frequency, remainder, soak];
+    places.extend(rows.map(|row| place(unit, row)));
+    places.extend([sums, backup].map(|sums| place(unit, sums)));
+    places.extend([filled, count, backed, unlock].map(|number| place(unit, number)));
+    places.extend([last, command, selected, aim, mode, lock].map(|byte| place(unit, byte)));
+    places.extend([wait, holding].map(|ticks| place(unit, ticks)));
+    places.extend([place(unit, open), place(unit, regs)]);
+    places
+}
+
+fn place<T>(unit: &Unit, field: &T) -> Range<usize> {
+    let start = field as *const T as usize - unit as *const Unit as usize;
+    start..start + size_of::<T>()
+}
+
+/// Events that a fresh unit refuses, with the number.
+const REFUSED: [(u8, (u8, u8, u8, i32)); 16] = [
+    (1, (3, 0x00, 1, 0)),
+    (1, (3, 0x4f, 0, 0)),
+    (2, (3, 0x48, 0, 0)),
+    (3, (3, 0x40, 2, 0)),
+    (4, (3, 0x44, 30, 0)),
+    (4, (3, 0x45, 26, 0)),
+    (5, (2, 0, 0, 0)),
+    (6, (1, 0, 0, 0)),
+    (6, (1, 9, 1, 0)),
+    (7, (0, 0xff, 1, 125_000_001)),
+    (7, (0, 0, 0, -125_000_001)),
+    (8, (3, 0x26, 1, 0)),
+    (8, (3, 0x26, 2, 0)),
+    (12, (4, 0, 0, 0)),
+    (12, (0, 0, 2, 0)),
+    (12, (3, 0x40, 1, 1)),
+];
+
+#[test]
+fn each_refusal_leaves_the_bytes_of_a_fresh_unit() {
+    let mut held = Held::fresh_unit();
+    for (number, (kind, a, b, word)) in REFUSED {
+        assert_eq!(held.send(kind, a, b, word), (number, true));
+    }
+}
+
+/// In random lists, a refusal that changes a byte is answered by one that there
+/// is not.
+const BYTES_CHANGED: u8 = 255;
+
+impl Device for Held {
+    fn name(&self) -> &'static str {
+        "controller and its bytes"
+    }
+
+    fn fresh(&self) -> Held {
+        Held::fresh_unit()
+    }
+
+    fn event(&mut self, kind: u8, a: u8, b: u8, word: i32) -> u8 {
+        match self.send(kind, a, b, word) {
+            (refusal, false) if refusal != 0 => BYTES_CHANGED,
+            (refusal, _) => refusal,
+        }
+    }
+
+    fn read(&self, address: u8) -> (u8, u8) {
+        self.unit().read(address)
+    }
+}
+
+/// The padding differs from event to event: here the fields alone count.
+impl PartialEq for Held {
+    fn eq(&self, other: &Held) -> bool {
+        self.unit() == other.unit()
+    }
+}
+
+#[test]
+fn each_refusal_leaves_the_bytes_in_random_lists() {
+    let mut coverage = Coverage::empty();
+    let lists = names(SEED, 150, 0);
+    let outcome = run_lists(&Held::fresh_unit(), lists, &mut coverage);
+    assert_eq!(outcome.map_err(|found| found.to_string()), Ok(()));
+    for number in (1..=8).chain([12]) {
+        let name = format!("events refused with {}", number);
+        let mut counts = coverage.counts().into_iter();
+        assert!(
+            counts.any(|(item, count)| item == name && count > 0),
+            "{}",
+            name
+        );
+    }
+}
