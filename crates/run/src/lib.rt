@@ -1,27 +1,33 @@
 // The run of a sheet on a fresh unit (document 01, "Run sheet and rack program"): its settings, its events and their records; and what is exported.
 // Each contract is an equation with a rule of crates/rules/specs/Sheet.antt; the rule is named above the function.
 ghost use mathlib.Core.Path.{_≡_};
-ghost use Prim.Native.Nat.{_*_, _≤_};
+ghost use Prim.Native.Nat.{ℕ, _*_, _≤_};
 ghost use mathlib.Core.List.{List};
 ghost use lib.IntN.{ℤ};
 ghost use lib.ListN.{length};
 ghost use Rattle.rules.specs.Run as rules;
 ghost use Rattle.rules.specs.Sheet as rules-sheet;
 ghost use Rattle.rules.specs.Sheet.{settingsOf, eventsOf, recordOf, records, front, over, outputAfter};
+ghost use Rattle.rules.specs.Registers.{settingsFrom};
+ghost use Rattle.inputs.specs.Bridge.{withSoak};
+ghost use Rattle.inputs.specs.declared.Monitors as stored;
+ghost use Rattle.candidates.specs.Keys.{keysFrom};
 ghost use Rattle.tick.specs.Bridge.{stateOf};
 use fields::Decoded;
+use history::places;
+use inputs::Monitors;
 use tick::Core;
 
 // ---- the run
 
 // The rule `recordOf`, at the front of a part of the output.
-fn put_record(out: &mut [u8], refusal: u8, k: Core)
+fn put_record(out: &mut [u8], refusal: u8, k: Core, soak: &[u16; 8])
     requires { ⌜ 4 ≤ length (now out) ⌝ }
-    ensures { λ _. ⌜ ((sums backup : List ℤ) → length sums ≡ 64 → length backup ≡ 64 → now (out .exit) ≡ over (recordOf (record { refusal = refusal; state = stateOf k sums backup })) (now (out .entry))) ⌝ }
+    ensures { λ _. ⌜ ((m : stored.Monitors) (regs : List ℕ) (sums backup : List ℤ) → length sums ≡ 64 → length backup ≡ 64 → now (out .exit) ≡ over (recordOf (record { refusal = refusal; state = stateOf k (withSoak m (now (soak .entry))) regs sums backup })) (now (out .entry))) ⌝ }
 {
     let status = readout::status_byte(k);
     let state = readout::state_byte(k);
-    let qualified = inputs::qualified_mask(k.monitors);
+    let qualified = inputs::qualified_mask(soak);
     out[0] = refusal;
     out[1] = state;
     out[2] = qualified;
@@ -33,40 +39,55 @@ fn run_settings(
     part: &[u8],
     n: usize,
     start: Core,
+    soak: &[u16; 8],
+    regs: &mut [u8; 27],
+    keys: &mut [u16; 9],
     sums: &mut [i64; 64],
     backup: &mut [i64; 64],
     out: &mut [u8],
 ) -> Core
-    requires { ⌜ (2 * n ≤ length (now part)) × (4 * n ≤ length (now out)) ⌝ }
-    ensures { λ r. ⌜ stateOf r (now (sums .exit)) (now (backup .exit)) ≡ rules.run (stateOf start (now (sums .entry)) (now (backup .entry))) (settingsOf n (now (part .entry))) ⌝ }
-    ensures { λ _. ⌜ now (out .exit) ≡ over (records (stateOf start (now (sums .entry)) (now (backup .entry))) (settingsOf n (now (part .entry)))) (now (out .entry)) ⌝ }
+    requires { ⌜ (2 * n ≤ length (now part)) × (4 * n ≤ length (now out)) × (now keys ≡ keysFrom (settingsFrom (now regs))) ⌝ }
+    ensures { λ r. ⌜ ((m : stored.Monitors) → stateOf r (withSoak m (now (soak .entry))) (now (regs .exit)) (now (sums .exit)) (now (backup .exit)) ≡ rules.run (stateOf start (withSoak m (now (soak .entry))) (now (regs .entry)) (now (sums .entry)) (now (backup .entry))) (settingsOf n (now (part .entry)))) ⌝ }
+    ensures { λ _. ⌜ ((m : stored.Monitors) → now (out .exit) ≡ over (records (stateOf start (withSoak m (now (soak .entry))) (now (regs .entry)) (now (sums .entry)) (now (backup .entry))) (settingsOf n (now (part .entry)))) (now (out .entry))) ⌝ }
+    ensures { λ _. ⌜ now (keys .exit) ≡ keysFrom (settingsFrom (now (regs .exit))) ⌝ }
 {
     let mut k = start;
     let mut i = 0;
     while i < n {
         let at = 2 * i;
-        let s = unit::write(part[at], part[at + 1], k, sums, backup);
+        let s = unit::write(part[at], part[at + 1], k, regs, keys, sums, backup);
+        places(*sums);
+        places(*backup);
         let next = s.core;
         let place = 4 * i;
-        put_record(&mut out[place..], s.refusal, next);
+        put_record(&mut out[place..], s.refusal, next, soak);
         k = next;
         i += 1;
     }
     k
 }
 
-// n events run, up to the first that is none.
+// n events run, up to the first that is none. The rows lie here while they run.
 fn run_events(
     part: &[u8],
     n: usize,
     start: Core,
+    m: Monitors,
+    regs: &mut [u8; 27],
+    keys: &mut [u16; 9],
     sums: &mut [i64; 64],
     backup: &mut [i64; 64],
     out: &mut [u8],
 )
-    requires { ⌜ (8 * n ≤ length (now part)) × (4 * n ≤ length (now out)) ⌝ }
-    ensures { λ _. ⌜ now (out .exit) ≡ over (records (stateOf start (now (sums .entry)) (now (backup .entry))) (eventsOf n (now (part .entry)))) (now (out .entry)) ⌝ }
+    requires { ⌜ (8 * n ≤ length (now part)) × (4 * n ≤ length (now out)) × (now keys ≡ keysFrom (settingsFrom (now regs))) ⌝ }
+    ensures { λ _. ⌜ now (out .exit) ≡ over (records (stateOf start m (now (regs .entry)) (now (sums .entry)) (now (backup .entry))) (eventsOf n (now (part .entry)))) (now (out .entry)) ⌝ }
 {
+    let mut level = m.level;
+    let mut decay = m.decay;
+    let mut active = m.active;
+    let mut frequency = m.frequency;
+    let mut remainder = m.remainder;
+    let mut soak = m.soak;
     let mut k = start;
     let mut i = 0;
     while i < n {
@@ -74,10 +95,25 @@ fn run_events(
         let Decoded::Event(e) = sheet::read_event(&part[at..]) else {
             return;
         };
-        let s = unit::step(e, k, sums, backup);
+        let s = unit::step(
+            e,
+            k,
+            &mut level,
+            &mut decay,
+            &mut active,
+            &mut frequency,
+            &mut remainder,
+            &mut soak,
+            regs,
+            keys,
+            sums,
+            backup,
+        );
+        places(*sums);
+        places(*backup);
         let next = s.core;
         let place = 4 * i;
-        put_record(&mut out[place..], s.refusal, next);
+        put_record(&mut out[place..], s.refusal, next, &soak);
         k = next;
         i += 1;
     }
@@ -95,12 +131,20 @@ pub fn run_into(sheet: &[u8], out: &mut [u8]) -> usize
     let settings = c.settings;
     let events = c.events;
     let u = unit::fresh();
-    let mut sums = u.sums;
-    let mut backup = u.backup;
+    let m = u.monitors;
+    let soak = m.soak;
+    let mut regs = u.regs;
+    let h = u.history;
+    let mut sums = h.sums;
+    let mut backup = h.backup;
+    let mut keys = candidates::keys_of(&regs);
     let k = run_settings(
         &sheet[2..],
         settings,
-        u.core,
+        unit::core_of(u),
+        &soak,
+        &mut regs,
+        &mut keys,
         &mut sums,
         &mut backup,
         &mut out[..],
@@ -111,6 +155,9 @@ pub fn run_into(sheet: &[u8], out: &mut [u8]) -> usize
         &sheet[start..],
         events,
         k,
+        m,
+        &mut regs,
+        &mut keys,
         &mut sums,
         &mut backup,
         &mut out[next..],

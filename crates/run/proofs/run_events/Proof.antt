@@ -1,44 +1,69 @@
--- After i events their records are written, and the rest, run from the state so far, gives the rest of them.
-use Prim.Native.Nat.{ℕ, _≤_, _-_, _*_, _+_}
+-- After i events their records are written, and the rest, run from the state so far, gives the rest of them. The keys follow the registers.
+use Prim.Native.Nat.{ℕ, _≤_, _<_, _-_, _*_, _+_, _^_}
 use mathlib.Core.Path.{_≡_, sym, ap, _∙_}
+use mathlib.Core.List.{List}
 use native.Mathlib.Nat.{sub-zero}
 use native.Mathlib.Omega.{arith}
-use lib.ListN.{drop, length-drop}
+use lib.IntN.{ℤ}
+use lib.ListN.{length, drop, length-drop}
+use denote.Ref.{now}
 use borrow.Author.Needs.{needs}
+use Rattle.rules.specs.Registers.{settingsFrom}
 use Rattle.rules.specs.Sheet as rules
 use Rattle.rules.specs.Sheet.{bad, decode, eventsOf, records}
+use Rattle.rules.specs.State.{State}
+use Rattle.inputs.specs.declared.Monitors.{Monitors}
+use Rattle.candidates.specs.Keys.{keysFrom}
 use Rattle.tick.specs.Bridge.{stateOf}
+use Rattle.tick.specs.declared.Core.{Core}
 use Rattle.fields.specs.Bridge.{decodedOf}
 use Rattle.sheet.proofs.Parts.{part-all}
 use Rattle.run.proofs.Steps.{Going, going-start, going-put, going-done, events-more, events-stop}
 use Rattle.run.proofs.run_events.Statement.{statement}
-use denote.Ref.{now}
 use Rattle.run.proofs.run_events.Tie as tie
 
+-- the state that lies in these arrays
+abbrev lying : Core → List ℕ → List ℕ → List ℕ → List ℕ → List ℕ → List ℕ → List ℕ → List ℤ → List ℤ → State
+lying k level decay active frequency remainder soak regs sums backup =
+    stateOf k (record { level = level; decay = decay; active = active; frequency = frequency; remainder = remainder; soak = soak }) regs sums backup
+
 abbrev Inv-loop : tie.InvT-loop
-Inv-loop part n sums₀ backup₀ out₀ k₀ i₀ sums backup out k i =
+Inv-loop part n regs₀ keys₀ sums₀ backup₀ out₀ level₀ decay₀ active₀ frequency₀ remainder₀ soak₀ k₀ i₀ regs keys sums backup out level decay active frequency remainder soak k i =
     (i ≤ n)
-    × Going (records (stateOf k₀ sums₀ backup₀) (eventsOf n part)) out₀ (4 * i) (stateOf k sums backup) (eventsOf (n - i) (drop (8 * i) part)) out
+    × (keys ≡ keysFrom (settingsFrom regs))
+    × Going (records (lying k₀ level₀ decay₀ active₀ frequency₀ remainder₀ soak₀ regs₀ sums₀ backup₀) (eventsOf n part)) out₀ (4 * i)
+    (lying k level decay active frequency remainder soak regs sums backup) (eventsOf (n - i) (drop (8 * i) part)) out
 
 abbrev μ-loop : tie.MeasureT-loop
-μ-loop part n sums₀ backup₀ out₀ k₀ i₀ sums backup out k i = n - i
+μ-loop part n regs₀ keys₀ sums₀ backup₀ out₀ level₀ decay₀ active₀ frequency₀ remainder₀ soak₀ k₀ i₀ regs keys sums backup out level decay active frequency remainder soak k i =
+    n - i
 
 -- what was read is what stands at the event's place
 reads-at : (c : tie.After-read-event Inv-loop μ-loop) (d : rules.Decoded) → decodedOf (c .read-event .result) ≡ d
-    → decode (drop (8 * c .before .before .before .loop .i) (now (c .before .before .before .before .before .before .args .part))) ≡ d
+    → let at-loop = c .before .before .before in
+    decode (drop (8 * at-loop .loop .i) (now (at-loop .before .before .before .before .before .before .before .before .before .args .part))) ≡ d
 reads-at c d h =
-    let i = c .before .before .before .loop .i in
-    let part = now (c .before .before .before .before .before .before .args .part) in
+    let at-loop = c .before .before .before in
+    let i = at-loop .loop .i in
+    let part = now (at-loop .before .before .before .before .before .before .before .before .before .args .part) in
     ap decode (sym (part-all (8 * i) part))
     ∙ sym (c .read-event .ensures .0 (rw part-all (omega (arith, length-drop (8 * i) part)))) ∙ h
 
 loop-holds : tie.Need-loop-holds Inv-loop μ-loop
 loop-holds c =
-    let a = c .before .before .args in
-    (search needs, rw (sub-zero (a .n)) (going-start (stateOf (a .start) (now (a .sums)) (now (a .backup))) (eventsOf (a .n) (now (a .part))) (now (a .out))))
+    let start = c .before .before .before .before .before .before .before .before in
+    let a = start .args in (
+      search needs,
+      start .pre .2,
+      rw (sub-zero (a .n)) (going-start (stateOf (a .start) (a .m) (now (a .regs)) (now (a .sums)) (now (a .backup))) (eventsOf (a .n) (now (a .part))) (now (a .out))),
+    )
+
+-- within a turn there is room for the event's record
+room : (c : tie.In-loop Inv-loop μ-loop) → (4 * c .before .loop .i + 4 ≤ length (c .before .loop .out)) × (length (c .before .loop .out) < 2 ^ 64)
+room c = (omega arith, omega arith)
 
 same-length : tie.Need-same-length Inv-loop μ-loop
-same-length c = c .before .before .before .before .before .loop .inv .1 .same
+same-length c = c .before .before .before .before .before .loop .inv .2 .same
 
 returns : tie.Need-returns Inv-loop μ-loop
 returns c =
@@ -46,42 +71,59 @@ returns c =
     let at-loop = read .before .before .before in
     going-done _ _ (4 * at-loop .loop .i) _ _ _ (omega arith)
     (events-stop _ _ _ (read .before .before .loop-test .taken) (reads-at read bad (ap decodedOf (c .enum-told .given .1))))
-    (at-loop .loop .inv .1)
+    (at-loop .loop .inv .2)
+
+-- the turn in which a step was made
+abbrev turn : tie.After-step Inv-loop μ-loop → tie.In-loop Inv-loop μ-loop
+turn c = c .before .before .before .before .before .before .before .before .before .before .before .before .before .before .before .before
 
 put-record-requires : tie.Need-put-record-requires Inv-loop μ-loop
 put-record-requires c κs =
-    let at-loop = c .before .before .before .before .before .before .before .before .before .before .before in
-    rw part-all (omega (arith, length-drop (4 * at-loop .loop .i) (at-loop .loop .out)))
+    let t = turn (c .before .before .before .before .before .before .before) in
+    rw part-all (omega (arith, length-drop (4 * t .before .loop .i) (t .before .loop .out), room t .0))
 
 add-i : tie.Need-add-i Inv-loop μ-loop
 add-i c =
-    let in-loop = c .before .before .before .before .before .before .before .before .before .before .before .before .before in
-    omega (arith, in-loop .loop-test .taken, in-loop .before .before .before .before .fits .n)
+    let t = turn (c .before .before .before .before .before .before .before .before .before .before) in
+    omega (arith, t .loop-test .taken, t .before .before .before .before .before .before .before .before .before .before .fits .n)
 
 loop-again : tie.Need-loop-again Inv-loop μ-loop
 loop-again c =
     let put = c .before .before in
-    let stepped = put .before .before .before in
-    let told = stepped .before .before .before .before in
+    let second = put .before .before .before .before in
+    let first = second .before .before in
+    let stepped = first .before .before in
+    let told = stepped .before .before .before .before .before .before .before .before .before .before .before .before in
     let read = told .before .before in
     let in-loop = read .before .before in
     let at-loop = in-loop .before in
-    let i = at-loop .loop .i in
-    let after = stepped .step .ensures in (
+    let l = at-loop .loop in
+    let i = l .i in
+    let after = stepped .step .ensures in
+    let left = stepped .step .last in
+    let rows : Monitors = record {
+      level = left .1 .1 .0;
+      decay = left .1 .1 .1 .0;
+      active = left .1 .1 .1 .1 .0;
+      frequency = left .1 .1 .1 .1 .1 .0;
+      remainder = left .1 .1 .1 .1 .1 .1 .0;
+      soak = left .1 .1 .1 .1 .1 .1 .1 .0;
+    } in (
       omega (arith, in-loop .loop-test .taken),
-      going-put _ _ (4 * i) (4 * (i + 1)) _ _ _ _ _ _ _ (omega arith) (omega arith)
-          (events-more _ _ _ (in-loop .loop-test .taken) _ (reads-at read _ (ap decodedOf (told .e .given .1)))) (after .0)
-          (put .put-record .ensures _ _ (after .1 .0) (after .1 .1)) (at-loop .loop .inv .1),
+      after .1 (l .inv .1),
+      going-put _ _ (4 * i) (4 * (i + 1)) _ _ _ _ _ _ _ (omega arith) (omega (arith, in-loop .loop-test .taken, at-loop .before .before .before .before .before .before .before .before .before .pre .1))
+          (events-more _ _ _ (in-loop .loop-test .taken) _ (reads-at read _ (ap decodedOf (told .e .given .1)))) (after .0 (l .inv .1) .rules)
+          (put .put-record .ensures rows _ _ _ (first .places .ensures) (second .places2 .ensures)) (l .inv .2),
     )
 
 returns-2 : tie.Need-returns-2 Inv-loop μ-loop
 unfolding eventsOf
 returns-2 c =
     let at-loop = c .before in
-    let a = at-loop .before .before .before .args in
+    let a = at-loop .before .before .before .before .before .before .before .before .before .args in
     let i = at-loop .loop .i in
     let e : a .n - i ≡ 0 = omega arith in
-    going-done _ _ (4 * i) _ _ _ (omega arith) (ap (λ (k : ℕ). eventsOf k (drop (8 * i) (now (a .part)))) e) (at-loop .loop .inv .1)
+    going-done _ _ (4 * i) _ _ _ (omega arith) (ap (λ (k : ℕ). eventsOf k (drop (8 * i) (now (a .part)))) e) (at-loop .loop .inv .2)
 
 pub run-events-spec : {M : Type 1} → statement M
 run-events-spec =
@@ -100,13 +142,15 @@ run-events-spec =
     same-length
     returns
     (search needs)
-    (omega arith)
-    (omega arith)
-    (omega arith)
-    (omega arith)
+    (search needs)
+    (search needs)
+    (λ c. let r = room (turn (c .before .before .before .before .before)) in omega (arith, r .0, r .1))
+    (λ c. let r = room (turn (c .before .before .before .before .before)) in omega (arith, r .0, r .1))
+    (λ c. let r = room (turn (c .before .before .before .before .before)) in omega (arith, r .0, r .1))
+    (λ c. let r = room (turn (c .before .before .before .before .before)) in omega (arith, r .0, r .1))
     put-record-requires
     add-i
-    (omega arith)
+    (λ c. let t = turn (c .before .before .before .before .before .before .before .before .before .before) in omega (arith, t .loop-test .taken))
     loop-again
-    (λ c. c .before .loop .inv .1 .same)
+    (λ c. c .before .loop .inv .2 .same)
     returns-2)

@@ -9,6 +9,8 @@ use Rattle.rules.specs.Sheet.{settingsCount, eventsAt, eventsCount, sheetEnd, r
 use Rattle.rules.proofs.Sheets.{outputs}
 use Rattle.sheet.proofs.Numbers.{runs}
 use Rattle.sheet.proofs.Parts.{part-all}
+use Rattle.tick.specs.Bridge.{stateOf}
+use Rattle.tick.specs.declared.Core.{Core}
 use Rattle.run.proofs.Ran.{refused, all-written}
 use Rattle.run.proofs.run_into.Statement.{statement}
 use denote.Ref.{now}
@@ -47,62 +49,72 @@ returns c =
     let e = refused (now (a .sheet)) (length (now (a .out))) (λ z. c .if1 .taken (c .before .check .ensures ∙ z)) in
     (sym (ap length e), sym (ap (λ (l : List ℕ). over l (now (a .out))) e))
 
+-- what the settings' run found and left
+abbrev counted : tie.After-run-settings → tie.After-counts-of
+counted c = c .before .before .before .before .before .before .before .before .before .before .before .before .before .before .before .before .before .before
+
 sub-run-settings : tie.Need-sub-run-settings
-sub-run-settings c = omega (arith, sizes (c .before .before .before) .whole)
+sub-run-settings c = omega (arith, sizes (c .before .before .before .before .before .before .before .before .before) .whole)
 
 part-run-settings-start : tie.Need-part-run-settings-start
-part-run-settings-start c = omega (arith, sizes (c .before .before .before) .whole)
+part-run-settings-start c = omega (arith, sizes (c .before .before .before .before .before .before .before .before .before) .whole)
 
 run-settings-requires : tie.Need-run-settings-requires
 run-settings-requires c κs =
-    let counted = c .before .before .before .before .before .before .before in
-    let z = sizes counted in
-    (rw part-all (omega (arith, z .whole, length-drop 2 (now (counted .before .before .before .before .before .args .sheet)))), omega (arith, z .room-for))
+    let keyed = c .before .before .before .before .before .before .before .before in
+    let begun = keyed .before .before .before .before .before .before .before .before .before in
+    let z = sizes begun in (
+      rw part-all (omega (arith, z .whole, length-drop 2 (now (begun .before .before .before .before .before .args .sheet)))),
+      omega (arith, z .room-for),
+      keyed .keys-of .ensures,
+    )
 
 sub-run-events : tie.Need-sub-run-events
-sub-run-events c = omega (arith, sizes (c .before .before .before .before .before .before .before .before .before .before) .whole)
+sub-run-events c = omega (arith, sizes (counted (c .before .before)) .whole)
 
 part-run-events-start : tie.Need-part-run-events-start
-part-run-events-start c = omega (arith, sizes (c .before .before .before .before .before .before .before .before .before .before) .whole)
+part-run-events-start c = omega (arith, sizes (counted (c .before .before)) .whole)
 
 sub-run-events-2 : tie.Need-sub-run-events-2
-sub-run-events-2 c = omega (arith, sizes (c .before .before .before .before .before .before .before .before .before .before .before .before .before) .room-for, c .before .before .before .before .before .run-settings .kept .1 .1 .1 .1 .1 .0)
+sub-run-events-2 c = let s = c .before .before .before .before .before .before .before in omega (arith, sizes (counted s) .room-for, s .run-settings .kept .1 .1 .1 .1 .1 .1 .1 .1 .0)
 
 part-run-events-start-2 : tie.Need-part-run-events-start-2
-part-run-events-start-2 c = omega (arith, sizes (c .before .before .before .before .before .before .before .before .before .before .before .before .before) .room-for, c .before .before .before .before .before .run-settings .kept .1 .1 .1 .1 .1 .0)
+part-run-events-start-2 c = let s = c .before .before .before .before .before .before .before in omega (arith, sizes (counted s) .room-for, s .run-settings .kept .1 .1 .1 .1 .1 .1 .1 .1 .0)
 
 run-events-requires : tie.Need-run-events-requires
 run-events-requires c κs =
-    let counted = c .before .before .before .before .before .before .before .before .before .before .before .before .before .before in
-    let n = counted .counts-of .result .settings in
-    let z = sizes counted in
-    let settled = c .before .before .before .before .before .before .run-settings in (
-      rw part-all (omega (arith, z .whole, length-drop (2 + 2 * n + 2) (now (counted .before .before .before .before .before .args .sheet)))),
-      rw part-all (omega (arith, z .room-for, length-drop (4 * n) (settled .last .1 .1 .1 .1 .1 .0), settled .kept .1 .1 .1 .1 .1 .0)),
+    let s = c .before .before .before .before .before .before .before .before in
+    let settled = s .run-settings in
+    let begun = counted s in
+    let n = begun .counts-of .result .settings in
+    let z = sizes begun in (
+      rw part-all (omega (arith, z .whole, length-drop (2 + 2 * n + 2) (now (begun .before .before .before .before .before .args .sheet)))),
+      rw part-all (omega (arith, z .room-for, length-drop (4 * n) (settled .last .1 .1 .1 .1 .1 .1 .1 .1 .0), settled .kept .1 .1 .1 .1 .1 .1 .1 .1 .0)),
+      settled .ensures .1 .1,
     )
 
 add-result : tie.Need-add-result
-add-result c =
-    let n = c .before .before .before .before .before .before .before .before .before .before .before .before .before .before .before .before .before .counts-of .ensures .1 in
-    omega (arith, n .0, n .1)
+add-result c = let n = counted (c .before .before .before .before .before .before .before .before .before .before .before) .counts-of .ensures .1 in omega (arith, n .0, n .1)
 
 mul-result : tie.Need-mul-result
-mul-result c =
-    let n = c .before .before .before .before .before .before .before .before .before .before .before .before .before .before .before .before .before .counts-of .ensures .1 in
-    omega (arith, n .0, n .1)
+mul-result c = let n = counted (c .before .before .before .before .before .before .before .before .before .before .before) .counts-of .ensures .1 in omega (arith, n .0, n .1)
 
 returns-2 : tie.Need-returns-2
 unfolding recordCount
 returns-2 c =
     let ran = c .before .before .run-events in
-    let settled = c .before .before .before .before .before .before .before .before .before .run-settings in
-    let counted = c .before .before .before .before .before .before .before .before .before .before .before .before .before .before .before .before .before in
-    let n = counts counted in
-    let a = counted .before .before .before .before .before .args in
-    let z = zero (counted .before) in (
+    let s = c .before .before .before .before .before .before .before .before .before .before .before in
+    let settled = s .run-settings in
+    let begun = counted s in
+    let u = s .before .before .before .before .before .before .before .before .before .before .before .before .before .before .before .before .before .fresh in
+    let made = u .result in
+    let n = counts begun in
+    let a = begun .before .before .before .before .before .args in
+    let z = zero (begun .before) in
+    let fresh = ap (λ (k : Core). stateOf k (made .monitors) (made .regs) (made .history .sums) (made .history .backup)) (s .before .before .before .before .before .before .before .core-of .ensures) ∙ u .ensures in (
       omega (arith, outputs (now (a .sheet)) (now (a .out)) z .written, n .0, n .1),
-      all-written (now (a .sheet)) (now (a .out)) (settled .last .1 .1 .1 .1 .1 .0) (ran .last .1 .1 .1 .1 .1 .0) _ _ _ _ z (n .0) (n .1)
-          (c .before .before .before .before .before .before .before .before .before .before .before .before .before .before .before .before .fresh .ensures) (settled .ensures .0) (settled .ensures .1) (ran .ensures),
+      all-written (now (a .sheet)) (now (a .out)) (settled .last .1 .1 .1 .1 .1 .1 .1 .1 .0) (ran .last .1 .1 .1 .1 .1 .1 .1 .1 .0) _ _ _ _ z (n .0) (n .1)
+          fresh (settled .ensures .0 (made .monitors)) (settled .ensures .1 .0 (made .monitors)) (ran .ensures),
     )
 
 pub run-into-spec : {M : Type 1} → statement M
@@ -113,14 +125,16 @@ run-into-spec =
     returns
     (search needs)
     (search needs)
+    (search needs)
     sub-run-settings
     part-run-settings-start
     (search needs)
+    (search needs)
     run-settings-requires
-    (search needs)
-    (search needs)
-    (search needs)
-    (search needs)
+    (λ c. omega (arith, counted (c .before .before) .counts-of .ensures .1 .0))
+    (λ c. omega (arith, counted (c .before .before) .counts-of .ensures .1 .0))
+    (λ c. omega (arith, counted (c .before .before) .counts-of .ensures .1 .0))
+    (λ c. omega (arith, counted (c .before .before) .counts-of .ensures .1 .0))
     sub-run-events
     part-run-events-start
     (search needs)
