@@ -5,9 +5,11 @@ use model::{sheet_of, Event, SAMPLE_LIMIT};
 /// How many events each of the sheets has.
 pub const EVENTS: usize = 8_000;
 
+pub const SHEETS: [(&str, fn() -> Vec<u8>); 2] = [("settled", settled), ("mixed", mixed)];
+
 /// Automatic control, all inputs measured well; from then on every event is an
 /// accepted tick with lock, all clocks clean, input 1 soon Locked.
-pub fn settled() -> Vec<u8> {
+fn settled() -> Vec<u8> {
     let measured = (1..=8).map(|input| Event::Measurement { input, offset: 0 });
     let ticks = (0..).map(|index| Event::Tick {
         mask: 0,
@@ -20,7 +22,7 @@ pub fn settled() -> Vec<u8> {
 
 /// Ticks with changing irregular masks and lock flags, measurements, writes
 /// and Hits; some of them are refused.
-pub fn mixed() -> Vec<u8> {
+fn mixed() -> Vec<u8> {
     let mut random = Random(1);
     let events: Vec<_> = (0..EVENTS).map(|_| any_event(&mut random)).collect();
     sheet_of(&[(0x40, 1), (0x1c, 0x08), (0x1d, 0x09)], &events)

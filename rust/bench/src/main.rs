@@ -1,11 +1,13 @@
 //! The program: measures whole sheets, run by the real controller and by the
-//! Rust models in turn, in one process. It is no part of the tests.
+//! Rust models: the times in turn, in one process, and the instructions, with
+//! valgrind. It is no part of the tests.
 
 #![forbid(unsafe_code)]
 
+mod count;
 mod lists;
 
-use lists::EVENTS;
+use lists::{EVENTS, SHEETS};
 use std::fs::File;
 use std::path::{Path, PathBuf};
 use std::process::{Command, ExitCode, Stdio};
@@ -13,6 +15,7 @@ use std::time::{Duration, Instant};
 
 const USAGE: &str = "\
 usage: bench [--rack PATH] [--runs N]
+       bench --count RUNNER SHEET REPEATS    runs a sheet so often, to be counted
   --rack PATH  measures the rack program as well
   --runs N     the best of N runs counts (200)";
 
@@ -36,16 +39,29 @@ struct Options {
 }
 
 fn main() -> ExitCode {
-    match options(std::env::args().skip(1)) {
-        Some(options) => {
-            measure(&options);
-            ExitCode::SUCCESS
-        }
-        None => {
-            eprintln!("{}", USAGE);
-            ExitCode::from(2)
-        }
+    let arguments: Vec<_> = std::env::args().skip(1).collect();
+    let done = match arguments.split_first() {
+        Some((first, rest)) if first == "--count" => repeat(rest),
+        _ => options(arguments.into_iter()).map(|options| measure(&options)),
+    };
+    if done.is_some() {
+        ExitCode::SUCCESS
+    } else {
+        eprintln!("{}", USAGE);
+        ExitCode::from(2)
     }
+}
+
+/// What the counted process does: a runner and a sheet, by their names.
+fn repeat(arguments: &[String]) -> Option<()> {
+    let (runner, sheet, repeats) = match arguments {
+        [runner, sheet, repeats] => (runner, sheet, repeats.parse().ok()?),
+        _ => return None,
+    };
+    let run = RUNNERS.iter().find(|(name, _)| name == runner)?.1;
+    let sheet = SHEETS.iter().find(|(name, _)| name == sheet)?.1();
+    count::repeat(run, &sheet, repeats);
+    Some(())
 }
 
 fn measure(options: &Options) {
@@ -53,11 +69,20 @@ fn measure(options: &Options) {
         "bench: sheets of {} events, the best of {} runs each",
         EVENTS, options.runs
     );
-    for (name, sheet) in [("settled", lists::settled()), ("mixed", lists::mixed())] {
+    let counting = count::possible();
+    if !counting {
+        println!("valgrind is not there: no instructions are counted");
+    }
+    for (name, sheet) in SHEETS {
+        let sheet = sheet();
         describe(name, &sheet);
-        compare(name, &sheet, options.runs);
+        let times = times(&sheet, options.runs);
+        let counts = RUNNERS
+            .iter()
+            .map(|(runner, _)| count::instructions(runner, name));
+        print_table(&times, counting.then(|| counts.collect()));
         if let Some(rack) = &options.rack {
-            measure_rack(name, &sheet, rack);
+            measure_rack(&sheet, rack);
         }
     }
 }
@@ -94,8 +119,8 @@ fn describe(name: &str, sheet: &[u8]) {
     );
 }
 
-/// All runners in turn, the best time of each.
-fn compare(name: &str, sheet: &[u8], runs: u32) {
+/// All runners in turn, the best time of each, in nanoseconds an event.
+fn times(sheet: &[u8], runs: u32) -> Vec<f64> {
     let mut expected = vec![0; 65_536];
     let written = model::run(sheet, &mut expected);
     let mut best = vec![Duration::MAX; RUNNERS.len()];
@@ -109,23 +134,35 @@ fn compare(name: &str, sheet: &[u8], runs: u32) {
             assert!(output == expected, "{} gives other records", runner);
         }
     }
-    let (plain, tuned) = (best[0].as_secs_f64(), best[1].as_secs_f64());
-    for ((runner, _), best) in RUNNERS.iter().zip(&best) {
-        let per_event = best.as_nanos() as f64 / EVENTS as f64;
-        let seconds = best.as_secs_f64();
-        println!(
-            "  {:<8} {:<16} {:>7.1} ns per event, ratio {:.2} to the plain model, {:.2} to the tuned one",
-            name,
-            runner,
-            per_event,
-            seconds / plain,
-            seconds / tuned
+    let per_event = |best: Duration| best.as_nanos() as f64 / EVENTS as f64;
+    best.into_iter().map(per_event).collect()
+}
+
+/// A line for each runner: time and instructions, and the ratios to the models.
+fn print_table(times: &[f64], counts: Option<Vec<f64>>) {
+    print!(
+        "{:<18}{:>12}{:>10}{:>10}",
+        "", "ns an event", "to plain", "to tuned"
+    );
+    if counts.is_some() {
+        print!("{:>23}{:>10}", "instructions an event", "to tuned");
+    }
+    println!();
+    for (i, (runner, _)) in RUNNERS.iter().enumerate() {
+        let (plain, tuned) = (times[i] / times[0], times[i] / times[1]);
+        print!(
+            "  {:<16}{:>12.1}{:>10.2}{:>10.2}",
+            runner, times[i], plain, tuned
         );
+        if let Some(counts) = &counts {
+            print!("{:>23.1}{:>10.2}", counts[i], counts[i] / counts[1]);
+        }
+        println!();
     }
 }
 
 /// The wall time of the rack program with the sheet as its input.
-fn measure_rack(name: &str, sheet: &[u8], rack: &Path) {
+fn measure_rack(sheet: &[u8], rack: &Path) {
     let file = std::env::temp_dir().join("bench-sheet");
     std::fs::write(&file, sheet).expect("a sheet to read from");
     let time = || {
@@ -145,8 +182,5 @@ fn measure_rack(name: &str, sheet: &[u8], rack: &Path) {
     };
     let best = (0..RACK_RUNS).map(|_| time()).min();
     let milliseconds = best.map_or(0.0, |best| 1e3 * best.as_secs_f64());
-    println!(
-        "  {:<8} rack program     {:>7.2} ms a sheet",
-        name, milliseconds
-    );
+    println!("  rack program{:>16.2} ms a sheet", milliseconds);
 }
