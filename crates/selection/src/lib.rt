@@ -97,15 +97,16 @@ fn reverted(n: u32, b: u8, c: Choice) -> Choice
 
 // ---- the choice
 
-// The rule `reselected`: automatic control, `b` being the best candidate.
+// The rule `reselected`: automatic control, `b` being the best candidate. Where that is selected, it stays or is chosen, which is the same; the test comes
+// first, where the best is made, so that the compiler can make it of eight lanes side by side.
 fn reselected(soak: &[u16; 8], regs: &[u8; 27], b: u8, c: Choice) -> Choice
     ensures { λ r. ⌜ ((m : stored.Monitors) → choiceOf r ≡ selection.reselected (settingsFrom (now (regs .entry))) (inputsOf (withSoak m (now (soak .entry)))) b (choiceOf c)) ⌝ }
 {
+    if c.selected == b {
+        return settled(b);
+    }
     let stands = is_candidate(soak, regs, c.selected);
     if stands {
-        if c.selected == b {
-            return settled(c.selected);
-        }
         let reverts = is_revertive(regs, c.selected);
         if reverts {
             return reverted(delay_ticks(setting(regs, 0x43)), b, c);
