@@ -2,9 +2,7 @@
 // Each contract is an equation with a rule of crates/rules/specs/Sheet.antt through specs/Bridge.antt; the rule is named above the function.
 ghost use mathlib.Core.Path.{_≡_};
 ghost use Rattle.rules.specs.Sheet as rules;
-ghost use Rattle.rules.specs.Words.{if_then_else_};
-ghost use Rattle.unit.specs.Events.{eventOf};
-ghost use Rattle.fields.specs.Bridge.{decodedOf};
+ghost use Rattle.fields.specs.Bridge.{decodedOf, wordlessOf};
 use arith::both;
 use unit::Event;
 
@@ -21,17 +19,6 @@ fn is_zero(word: i32) -> bool
     word == 0
 }
 
-// An event that does not use the word: "Unused fields are 0."
-fn wordless(word: i32, e: Event) -> Decoded
-    ensures { λ r. ⌜ decodedOf r ≡ (if rules.isZero word then rules.event (eventOf e) else rules.bad) ⌝ }
-{
-    let unused = is_zero(word);
-    if unused {
-        return Decoded::Event(e);
-    }
-    Decoded::Bad
-}
-
 // The rule `tickOf`: "Kind 0 tick (a mask, b lock 0 or 1, word sample)".
 fn tick_of(a: u8, b: u8, word: i32) -> Decoded
     ensures { λ r. ⌜ decodedOf r ≡ rules.tickOf a b word ⌝ }
@@ -42,32 +29,36 @@ fn tick_of(a: u8, b: u8, word: i32) -> Decoded
     Decoded::Event(Event::Tick(a, b == 1, word))
 }
 
-// The rule `hitOf`: "2 Hit".
-fn hit_of(a: u8, b: u8, word: i32) -> Decoded
-    ensures { λ r. ⌜ decodedOf r ≡ rules.hitOf a b word ⌝ }
+// The kinds that do not use the word: "1 measurement (a input, b offset)", "2 Hit", "3 write (a address, b value)".
+fn wordless(kind: u8, a: u8, b: u8) -> Decoded
+    ensures { λ r. ⌜ decodedOf r ≡ wordlessOf kind a b ⌝ }
 {
-    let unused = both(a == 0, b == 0);
-    if unused {
-        return wordless(word, Event::Hit);
+    if kind == 1 {
+        return Decoded::Event(Event::Measurement(a, b));
+    }
+    if kind == 2 {
+        let unused = both(a == 0, b == 0);
+        if unused {
+            return Decoded::Event(Event::Hit);
+        }
+        return Decoded::Bad;
+    }
+    if kind == 3 {
+        return Decoded::Event(Event::Write(a, b));
     }
     Decoded::Bad
 }
 
-// The rule `fields`, with "1 measurement (a input, b offset)" and "3 write (a address, b value)".
+// The rule `fields`. The word is tested before the kinds that do not use it, so that a tick is told by one test.
 pub fn decode(kind: u8, a: u8, b: u8, word: i32) -> Decoded
     ensures { λ r. ⌜ decodedOf r ≡ rules.fields kind a b word ⌝ }
 {
     if kind == 0 {
         return tick_of(a, b, word);
     }
-    if kind == 1 {
-        return wordless(word, Event::Measurement(a, b));
-    }
-    if kind == 2 {
-        return hit_of(a, b, word);
-    }
-    if kind == 3 {
-        return wordless(word, Event::Write(a, b));
+    let unused = is_zero(word);
+    if unused {
+        return wordless(kind, a, b);
     }
     Decoded::Bad
 }

@@ -1,10 +1,14 @@
--- The kind says which of the four events the other fields are for.
-use mathlib.Core.Path.{refl, ap, _∙_}
+-- A tick by its kind. Of the other kinds none uses the word: where it is 0 the other fields decide, and where it is not each rule gives bad.
+use mathlib.Core.Path.{_≡_, refl, ap, _∙_}
+use mathlib.Core.Bool.{Bool, true, false, _&&_}
+use lib.Dec.{eqb}
 use borrow.Author.Needs.{needs}
 use borrow.Author.Tests.{ne-eqb}
-use Rattle.rules.specs.Sheet.{tickOf, measurementOf, hitOf, writeOf, fields}
-use Rattle.fields.proofs.decode.Statement.{statement}
 use mir.Facts.{toZ-ofZ}
+use Rattle.rules.specs.Words.{if_then_else_}
+use Rattle.rules.specs.Sheet.{isZero, bad, tickOf, measurementOf, hitOf, writeOf, fields}
+use Rattle.fields.specs.Bridge.{wordlessOf}
+use Rattle.fields.proofs.decode.Statement.{statement}
 use Rattle.fields.proofs.decode.Tie as tie
 
 returns : tie.Need-returns
@@ -13,29 +17,35 @@ returns c =
     let s = c .before .before in
     rw (c .before .if1 .taken) (c .tick-of .ensures ∙ ap (tickOf (s .args .a) (s .args .b)) (toZ-ofZ (s .fits .word)))
 
+both-true : (t : Bool) → (t && true) ≡ t
+both-true true = refl
+both-true false = refl
+
+both-false : (t : Bool) → (t && false) ≡ false
+both-false true = refl
+both-false false = refl
+
+-- bad on every way
+all-bad : (s t u : Bool) → bad ≡ (if s then bad else (if t then bad else (if u then bad else bad)))
+all-bad true t u = refl
+all-bad false true u = refl
+all-bad false false true = refl
+all-bad false false false = refl
+
 returns-2 : tie.Need-returns-2
-unfolding fields measurementOf
+unfolding fields measurementOf hitOf writeOf wordlessOf
 returns-2 c =
-    let s = c .before .before .before in
-    rw (c .before .if2 .taken) (c .wordless .ensures ∙ ap (measurementOf (s .args .a) (s .args .b)) (toZ-ofZ (s .fits .word)))
+    let s = c .before .before .before .before in
+    let zero = c .before .before .is-zero .ensures ∙ ap isZero (toZ-ofZ (s .fits .word)) in
+    rw (ne-eqb (s .args .kind) 0 (c .before .before .before .if1 .left), ← zero, c .before .if2 .taken, both-true) (c .wordless .ensures)
 
 returns-3 : tie.Need-returns-3
-unfolding fields
+unfolding fields measurementOf hitOf writeOf
 returns-3 c =
-    let s = c .before .before .before .before in
-    rw (c .before .if3 .taken) (c .hit-of .ensures ∙ ap (hitOf (s .args .a) (s .args .b)) (toZ-ofZ (s .fits .word)))
-
-returns-4 : tie.Need-returns-4
-unfolding fields writeOf
-returns-4 c =
-    let s = c .before .before .before .before .before in
-    rw (c .before .if4 .taken) (c .wordless2 .ensures ∙ ap (writeOf (s .args .a) (s .args .b)) (toZ-ofZ (s .fits .word)))
-
-returns-5 : tie.Need-returns-5
-unfolding fields
-returns-5 c =
-    let k = c .before .before .before .before .args .kind in
-    rw (ne-eqb k 0 (c .before .before .before .if1 .left), ne-eqb k 1 (c .before .before .if2 .left), ne-eqb k 2 (c .before .if3 .left), ne-eqb k 3 (c .if4 .left)) refl
+    let s = c .before .before .before in
+    let k = s .args .kind in
+    let zero = c .before .is-zero .ensures ∙ ap isZero (toZ-ofZ (s .fits .word)) in
+    rw (ne-eqb k 0 (c .before .before .if1 .left), ← zero, c .if2 .left, both-false) (all-bad (eqb k 1) (eqb k 2) (eqb k 3))
 
 pub decode-spec : {M : Type 1} → statement M
-decode-spec = tie.close (tie.spec (search needs) returns (search needs) returns-2 (search needs) returns-3 (search needs) returns-4 returns-5)
+decode-spec = tie.close (tie.spec (search needs) returns (search needs) (search needs) returns-2 returns-3)

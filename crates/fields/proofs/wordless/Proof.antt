@@ -1,16 +1,32 @@
--- The event if the word is 0.
-use mathlib.Core.Path.{refl, ap, _∙_}
+-- Each arm decides the kind; the fields of a Hit are tested together.
+use mathlib.Core.Path.{refl}
 use borrow.Author.Needs.{needs}
-use Rattle.rules.specs.Sheet.{isZero}
+use borrow.Author.Tests.{ne-eqb}
+use Rattle.fields.specs.Bridge.{wordlessOf}
 use Rattle.fields.proofs.wordless.Statement.{statement}
-use mir.Facts.{toZ-ofZ}
 use Rattle.fields.proofs.wordless.Tie as tie
 
 returns : tie.Need-returns
-returns c = rw (← (c .before .is-zero .ensures ∙ ap isZero (toZ-ofZ (c .before .before .fits .word))), c .if1 .taken) refl
+unfolding wordlessOf
+returns c = rw (c .if1 .taken) refl
 
 returns-2 : tie.Need-returns-2
-returns-2 c = rw (← (c .before .is-zero .ensures ∙ ap isZero (toZ-ofZ (c .before .before .fits .word))), c .if1 .left) refl
+unfolding wordlessOf
+returns-2 c = rw (c .before .before .if2 .taken, ← c .before .both .ensures, c .if3 .taken) refl
+
+returns-3 : tie.Need-returns-3
+unfolding wordlessOf
+returns-3 c = rw (c .before .before .if2 .taken, ← c .before .both .ensures, c .if3 .left) refl
+
+returns-4 : tie.Need-returns-4
+unfolding wordlessOf
+returns-4 c = rw (c .if4 .taken) refl
+
+returns-5 : tie.Need-returns-5
+unfolding wordlessOf
+returns-5 c =
+    let k = c .before .before .before .args .kind in
+    rw (ne-eqb k 1 (c .before .before .if1 .left), ne-eqb k 2 (c .before .if2 .left), ne-eqb k 3 (c .if4 .left)) refl
 
 pub wordless-spec : {M : Type 1} → statement M
-wordless-spec = tie.close (tie.spec (search needs) returns returns-2)
+wordless-spec = tie.close (tie.spec returns (search needs) returns-2 returns-3 returns-4 returns-5)
