@@ -1,5 +1,5 @@
 -- Sums as the machine holds them, and the limit of a block's sum.
-use Prim.Native.Nat.{_-_, _^_, _≤_, _<_}
+use Prim.Native.Nat.{ℕ, suc, _-_, _^_, _≤_, _<_}
 use mathlib.Core.Path.{_≡_, ap}
 use mathlib.Core.Bool.{true, false, false≢true}
 use native.Mathlib.Omega.{arith}
@@ -31,6 +31,11 @@ small-fits z h = record { sfits = omega (arith, mag-le z) }
 -- what is within it stays
 pub saturated-again : (z : ℤ) → saturated (saturated z) ≡ saturated z
 saturated-again z = saturated-within (saturated z) (saturated-le z)
+
+-- a sum between two numbers of one magnitude is less than that
+pub between : (n : ℕ) (z : ℤ) → ltZ (negsuc n) z ≡ true → ltZ z (pos (suc n)) ≡ true → natAbs z ≤ n
+between n (pos k) l h = omega (arith, ltb-true k (suc n) h)
+between n (negsuc k) l h = omega (arith, ltb-true k n l)
 
 -- a sum under the limit, over it, and inside
 pub under : (z : ℤ) → ltZ z (negsuc (sumLimit - 1)) ≡ true → negsuc (sumLimit - 1) ≡ saturated z

@@ -75,10 +75,16 @@ pub fn holds_backup(t: Tally) -> bool
     t.backed != 0
 }
 
-// The open block's sum with one sample more: clamped, added and clamped again, so that nothing overflows.
+// The open block's sum with one sample more: clamped, added and clamped again, so that nothing overflows. A sum so far from its bounds that no sample leads
+// over them is added to at once.
 fn summed(sum: i64, x: i32) -> i64
     ensures { λ r. ⌜ r ≡ saturated (saturated sum +ℤ x) ⌝ }
 {
+    if -13_000_000_000 < sum {
+        if sum < 13_000_000_000 {
+            return sum + (x as i64);
+        }
+    }
     within(within(sum) + (x as i64))
 }
 
@@ -134,12 +140,12 @@ fn noted(policy: u8, selected: u8, t: Tally) -> Tally
 {
     let counts = one_to_eight(selected);
     if counts {
+        if selected == t.last {
+            return t;
+        }
         let mut next = t;
         next.last = selected;
         if policy == 0 {
-            if selected == t.last {
-                return next;
-            }
             return emptied(next);
         }
         return next;

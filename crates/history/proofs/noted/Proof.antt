@@ -1,43 +1,44 @@
 -- Each arm decides the rule's tests; what is left holds by definition.
+use mathlib.Core.Path.{_≡_, refl, sym, ap, _∙_}
+use mathlib.Core.Bool.{Bool, true, false, _&&_}
 use borrow.Author.Tests.{eq-eqb, ne-eqb}
 use borrow.Author.Needs.{needs}
 use Rattle.rules.specs.History.{refilled, withBlocks, withLast, noted}
+use Rattle.history.specs.Bridge.{historyOf}
 use Rattle.history.proofs.noted.Statement.{statement}
 use Rattle.history.proofs.noted.Tie as tie
 
+neither : (b : Bool) → (b && false) ≡ false
+neither true = refl
+neither false = refl
+
+-- the reference selected last again: it stays noted, whatever the policy
 returns : tie.Need-returns
 unfolding noted withLast
 returns c sums backup =
     let b = c .before .before in
-    let a = b .before .before .before .args in
-    rw (
-      ← b .before .before .one-to-eight .ensures,
-      b .before .if1 .taken,
-      eq-eqb (a .policy) 0 (b .if2 .taken),
-      eq-eqb (a .selected) (a .t .last) (c .if3 .taken),
-    )
+    let a = b .before .before .args in
+    rw (← b .before .one-to-eight .ensures, b .if1 .taken, eq-eqb (a .selected) (a .t .last) (c .if2 .taken), neither)
+    (ap (λ n. withLast n (historyOf (a .t) sums backup)) (sym (c .if2 .taken)))
 
 returns-2 : tie.Need-returns-2
 unfolding noted withLast withBlocks refilled
 returns-2 c sums backup =
-    let b = c .before .before .before in
-    let a = b .before .before .before .args in
+    let b = c .before .before .before .before in
+    let a = b .before .before .args in
     rw (
-      ← b .before .before .one-to-eight .ensures,
-      b .before .if1 .taken,
-      eq-eqb (a .policy) 0 (b .if2 .taken),
-      ne-eqb (a .selected) (a .t .last) (c .before .if3 .left),
+      ← b .before .one-to-eight .ensures,
+      b .if1 .taken,
+      eq-eqb (a .policy) 0 (c .before .if3 .taken),
+      ne-eqb (a .selected) (a .t .last) (c .before .before .if2 .left),
     )
     (c .emptied .ensures sums backup)
 
 returns-3 : tie.Need-returns-3
 unfolding noted withLast
 returns-3 c sums backup =
-    rw (
-      ← c .before .before .one-to-eight .ensures,
-      c .before .if1 .taken,
-      ne-eqb (c .before .before .before .args .policy) 0 (c .if2 .left),
-    )
+    let b = c .before .before .before in
+    rw (← b .before .one-to-eight .ensures, b .if1 .taken, ne-eqb (b .before .before .args .policy) 0 (c .if3 .left))
 
 returns-4 : tie.Need-returns-4
 unfolding noted
