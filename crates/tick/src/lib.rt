@@ -77,8 +77,9 @@ pub fn tick(
     // step 3
     let driven = looped(lock, k.choice.selected, k.pll);
     alarmed(k.choice.selected, driven, remainder, soak);
-    // step 4
-    let choice = selection::chosen(soak, regs, keys, k.choice);
+    // step 4: the soaks are read once, for the choice and for a record of this tick
+    let soaks = *soak;
+    let choice = selection::chosen(&soaks, regs, keys, k.choice);
     let steered = pll::steered(
         registers::is_automatic(regs),
         registers::setting(regs, 0x41),
