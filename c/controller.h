@@ -50,7 +50,7 @@ struct unit_history {
 
 /* The selection. */
 struct unit_choice {
-    uint32_t wait;    /* reversion wait in ticks */
+    uint64_t wait;    /* reversion wait in ticks */
     uint8_t selected; /* 0 none, 1 to 8, 9 Free Run as a candidate */
     uint8_t aim;      /* the best that the wait is for */
 };
@@ -58,8 +58,8 @@ struct unit_choice {
 /* The PLL. */
 struct unit_loop {
     uint16_t unlock; /* unlock run */
-    uint8_t mode;    /* state, as in 0x48 */
-    uint8_t lock;    /* lock run */
+    uint16_t mode;   /* state, as in 0x48 */
+    uint16_t lock;   /* lock run */
 };
 
 /* The whole state. */
@@ -75,9 +75,9 @@ struct unit {
 CONTROLLER_ASSERT(sizeof(struct unit_monitors) == 96, "size of unit_monitors");
 CONTROLLER_ASSERT(sizeof(struct unit_tally) == 16, "size of unit_tally");
 CONTROLLER_ASSERT(sizeof(struct unit_history) == 1040, "size of unit_history");
-CONTROLLER_ASSERT(sizeof(struct unit_choice) == 8, "size of unit_choice");
-CONTROLLER_ASSERT(sizeof(struct unit_loop) == 4, "size of unit_loop");
-CONTROLLER_ASSERT(sizeof(struct unit) == 1184, "size of unit");
+CONTROLLER_ASSERT(sizeof(struct unit_choice) == 16, "size of unit_choice");
+CONTROLLER_ASSERT(sizeof(struct unit_loop) == 6, "size of unit_loop");
+CONTROLLER_ASSERT(sizeof(struct unit) == 1192, "size of unit");
 CONTROLLER_ASSERT(CONTROLLER_ALIGN(struct unit) == 8, "alignment of unit");
 
 CONTROLLER_ASSERT(offsetof(struct unit_monitors, level) == 0, "offset of level");
@@ -96,17 +96,17 @@ CONTROLLER_ASSERT(offsetof(struct unit_history, tally) == 0, "offset of tally");
 CONTROLLER_ASSERT(offsetof(struct unit_history, sums) == 16, "offset of sums");
 CONTROLLER_ASSERT(offsetof(struct unit_history, backup) == 528, "offset of backup");
 CONTROLLER_ASSERT(offsetof(struct unit_choice, wait) == 0, "offset of wait");
-CONTROLLER_ASSERT(offsetof(struct unit_choice, selected) == 4, "offset of selected");
-CONTROLLER_ASSERT(offsetof(struct unit_choice, aim) == 5, "offset of aim");
+CONTROLLER_ASSERT(offsetof(struct unit_choice, selected) == 8, "offset of selected");
+CONTROLLER_ASSERT(offsetof(struct unit_choice, aim) == 9, "offset of aim");
 CONTROLLER_ASSERT(offsetof(struct unit_loop, unlock) == 0, "offset of unlock");
 CONTROLLER_ASSERT(offsetof(struct unit_loop, mode) == 2, "offset of mode");
-CONTROLLER_ASSERT(offsetof(struct unit_loop, lock) == 3, "offset of lock");
+CONTROLLER_ASSERT(offsetof(struct unit_loop, lock) == 4, "offset of lock");
 CONTROLLER_ASSERT(offsetof(struct unit, monitors) == 0, "offset of monitors");
 CONTROLLER_ASSERT(offsetof(struct unit, history) == 96, "offset of history");
 CONTROLLER_ASSERT(offsetof(struct unit, choice) == 1136, "offset of choice");
-CONTROLLER_ASSERT(offsetof(struct unit, holding) == 1144, "offset of holding");
-CONTROLLER_ASSERT(offsetof(struct unit, pll) == 1148, "offset of pll");
-CONTROLLER_ASSERT(offsetof(struct unit, regs) == 1152, "offset of regs");
+CONTROLLER_ASSERT(offsetof(struct unit, holding) == 1152, "offset of holding");
+CONTROLLER_ASSERT(offsetof(struct unit, pll) == 1156, "offset of pll");
+CONTROLLER_ASSERT(offsetof(struct unit, regs) == 1162, "offset of regs");
 
 /* A fresh unit. */
 struct unit unit_fresh(void);

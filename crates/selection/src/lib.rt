@@ -19,12 +19,12 @@ use registers::is_revertive;
 use registers::setting;
 
 // One tick more than the longest delay: the wait stops here.
-const WAIT_LIMIT: u32 = 119_533;
+const WAIT_LIMIT: u64 = 119_533;
 
 // What is selected, and the ticks waited for `aim`, the best that they count for.
 #[repr(C)]
 pub struct Choice {
-    pub wait: u32,
+    pub wait: u64,
     pub selected: u8,
     pub aim: u8,
 }
@@ -32,10 +32,10 @@ pub struct Choice {
 // ---- the wait
 
 // The rule `delayTicks`: a delay in minutes, in ticks.
-pub fn delay_ticks(minutes: u8) -> u32
+pub fn delay_ticks(minutes: u8) -> u64
     ensures { λ r. ⌜ r ≡ delayTicks minutes ⌝ }
 {
-    (1875 * wide32(minutes) + 3) / 4
+    ((1875 * wide32(minutes) + 3) / 4) as u64
 }
 
 // The rule `settled`: selected, with the wait at 0.
@@ -50,7 +50,7 @@ pub fn settled(c: u8) -> Choice
 }
 
 // The rule `waitAfter`: the wait for `b` with this tick.
-fn wait_after(b: u8, c: Choice) -> u32
+fn wait_after(b: u8, c: Choice) -> u64
     ensures { λ r. ⌜ r ≡ waitAfter b (choiceOf c) ⌝ }
 {
     if c.wait == 0 {
@@ -66,21 +66,21 @@ fn wait_after(b: u8, c: Choice) -> u32
 }
 
 // One less, not below 0.
-fn less_one(n: u32) -> u32
+fn less_one(n: u64) -> u64
     ensures { λ r. ⌜ r ≡ n - 1 ⌝ }
 {
     if n == 0 { 0 } else { n - 1 }
 }
 
 // The rule `switches`: the wait is over.
-fn switches(n: u32, wait: u32) -> bool
+fn switches(n: u64, wait: u64) -> bool
     ensures { λ r. ⌜ r ≡ selection.switches n wait ⌝ }
 {
     n <= less_one(wait)
 }
 
 // The rule `reverted`: the reversion to `b`, which waits for n ticks.
-fn reverted(n: u32, b: u8, c: Choice) -> Choice
+fn reverted(n: u64, b: u8, c: Choice) -> Choice
     ensures { λ r. ⌜ choiceOf r ≡ selection.reverted n b (choiceOf c) ⌝ }
 {
     let wait = wait_after(b, c);

@@ -45,7 +45,7 @@ pub struct History {
 #[repr(C)]
 #[derive(Clone, Copy, Debug, PartialEq, Eq)]
 pub struct Choice {
-    pub wait: u32,
+    pub wait: u64,
     pub selected: u8,
     pub aim: u8,
 }
@@ -55,8 +55,8 @@ pub struct Choice {
 #[derive(Clone, Copy, Debug, PartialEq, Eq)]
 pub struct Loop {
     pub unlock: u16,
-    pub mode: u8,
-    pub lock: u8,
+    pub mode: u16,
+    pub lock: u16,
 }
 
 /// The whole state of a unit.
@@ -79,9 +79,9 @@ const _: () = {
     assert!(laid_out::<Monitors>(96, 2));
     assert!(laid_out::<Tally>(16, 8));
     assert!(laid_out::<History>(1040, 8));
-    assert!(laid_out::<Choice>(8, 4));
-    assert!(laid_out::<Loop>(4, 2));
-    assert!(laid_out::<Unit>(1184, 8));
+    assert!(laid_out::<Choice>(16, 8));
+    assert!(laid_out::<Loop>(6, 2));
+    assert!(laid_out::<Unit>(1192, 8));
 };
 
 extern "C" {

@@ -29,13 +29,13 @@ fn the_fields_lie_where_the_interface_says() {
         ("sums", offset(&unit, &history.sums), 112),
         ("backup", offset(&unit, &history.backup), 624),
         ("wait", offset(&unit, &unit.choice.wait), 1136),
-        ("selected", offset(&unit, &unit.choice.selected), 1140),
-        ("aim", offset(&unit, &unit.choice.aim), 1141),
-        ("holding", offset(&unit, &unit.holding), 1144),
-        ("unlock", offset(&unit, &unit.pll.unlock), 1148),
-        ("mode", offset(&unit, &unit.pll.mode), 1150),
-        ("lock", offset(&unit, &unit.pll.lock), 1151),
-        ("regs", offset(&unit, &unit.regs), 1152),
+        ("selected", offset(&unit, &unit.choice.selected), 1144),
+        ("aim", offset(&unit, &unit.choice.aim), 1145),
+        ("holding", offset(&unit, &unit.holding), 1152),
+        ("unlock", offset(&unit, &unit.pll.unlock), 1156),
+        ("mode", offset(&unit, &unit.pll.mode), 1158),
+        ("lock", offset(&unit, &unit.pll.lock), 1160),
+        ("regs", offset(&unit, &unit.regs), 1162),
     ];
     for (name, found, expected) in places {
         assert_eq!(found, expected, "{}", name);

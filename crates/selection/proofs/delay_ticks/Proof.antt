@@ -11,4 +11,4 @@ unfolding delayTicks
 returns c = ap (λ n. (1875 * n + 3) / 4) (c .wide32 .ensures .0)
 
 pub delay-ticks-spec : {M : Type 1} → statement M
-delay-ticks-spec = tie.close (tie.spec (search needs) (search needs) (search needs) returns)
+delay-ticks-spec = tie.close (tie.spec (search needs) (search needs) (search needs) (search needs) returns)
