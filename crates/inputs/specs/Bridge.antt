@@ -77,3 +77,8 @@ leaving level decay active frequency remainder soak =
       remainder = now (remainder .exit);
       soak = now (soak .exit);
     }
+
+-- what is said of the rows as a call begins and as it returns
+abbrev pub across : Row → Row → Row → List ℕ → Row → Row → (Monitors → Monitors → Type 0) → Type 0
+across level decay active frequency remainder soak says =
+    says (entering level decay active frequency remainder soak) (leaving level decay active frequency remainder soak)

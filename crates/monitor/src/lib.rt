@@ -6,7 +6,7 @@ ghost use lib.Dec.{leb};
 ghost use lib.ListN.{getD};
 ghost use Rattle.rules.specs.Monitors.{bucket, levelAfter, decayAfter, good, soakAfter};
 ghost use Rattle.rules.specs.Tick as Tick;
-ghost use Rattle.inputs.specs.Bridge.{isSet, eight, inputsOf, entering, leaving};
+ghost use Rattle.inputs.specs.Bridge.{isSet, eight, inputsOf, across};
 ghost use Rattle.monitor.specs.Rows.{weight, activeAfter};
 use arith::both;
 use arith::down;
@@ -187,7 +187,7 @@ pub fn watched(
     remainder: &mut [u16; 8],
     soak: &mut [u16; 8],
 )
-    ensures { λ _. ⌜ inputsOf (leaving level decay active (now (frequency .entry)) remainder soak) ≡ Tick.watched mask (inputsOf (entering level decay active (now (frequency .entry)) remainder soak)) ⌝ }
+    ensures { λ _. ⌜ across level decay active (now (frequency .entry)) remainder soak (λ before after. inputsOf after ≡ Tick.watched mask (inputsOf before)) ⌝ }
 {
     let b = irregular_row(mask);
     let l0 = *level;

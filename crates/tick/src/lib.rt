@@ -12,7 +12,7 @@ ghost use Rattle.rules.specs.Pll as pll;
 ghost use Rattle.rules.specs.Selection.{altered};
 ghost use Rattle.rules.specs.Tick as rules;
 ghost use Rattle.rules.specs.Registers.{settingsFrom};
-ghost use Rattle.inputs.specs.Bridge.{inputsOf, withLockAlarms, entering, leaving};
+ghost use Rattle.inputs.specs.Bridge.{inputsOf, withLockAlarms, across};
 ghost use Rattle.inputs.specs.declared.Monitors as stored;
 ghost use Rattle.candidates.specs.Keys.{keysFrom};
 ghost use Rattle.pll.specs.Bridge.{loopOf};
@@ -70,7 +70,7 @@ pub fn tick(
     keys: &[u16; 9],
     sums: &mut [i64; 64],
 ) -> Core
-    ensures { λ r. ⌜ ((backup : List ℤ) → length (now (sums .entry)) ≡ 64 → now (keys .entry) ≡ keysFrom (settingsFrom (now (regs .entry))) → stateOf r (leaving level decay active (now (frequency .entry)) remainder soak) (now (regs .entry)) (now (sums .exit)) backup ≡ rules.ticked mask lock x (stateOf k (entering level decay active (now (frequency .entry)) remainder soak) (now (regs .entry)) (now (sums .entry)) backup)) ⌝ }
+    ensures { λ r. ⌜ across level decay active (now (frequency .entry)) remainder soak (λ before after. (backup : List ℤ) → length (now (sums .entry)) ≡ 64 → now (keys .entry) ≡ keysFrom (settingsFrom (now (regs .entry))) → stateOf r after (now (regs .entry)) (now (sums .exit)) backup ≡ rules.ticked mask lock x (stateOf k before (now (regs .entry)) (now (sums .entry)) backup)) ⌝ }
 {
     // steps 1 and 2
     monitor::watched(mask, level, decay, active, frequency, remainder, soak);

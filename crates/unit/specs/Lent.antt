@@ -1,4 +1,4 @@
--- What is stored, as it lies in the arrays that a step is lent: when the call begins, and when it returns.
+-- What is stored, as it lies in the arrays that a step is lent: when the call begins, and when it returns. The core goes by value.
 use Prim.Native.Nat.{ℕ}
 use mathlib.Core.List.{List}
 use lib.IntN.{ℤ}
@@ -12,8 +12,8 @@ use Rattle.unit.specs.Bridge.{Stored}
 abbrev pub Sums : Type 0
 Sums = Both (RefT (List ℤ)) (RefT (List ℤ))
 
-abbrev pub entering : Core → Row → Row → Row → Row → Row → Row → Row → Sums → Sums → Stored
-entering k level decay active frequency remainder soak regs sums backup =
+abbrev pub entering : Row → Row → Row → Row → Row → Row → Row → Sums → Sums → Core → Stored
+entering level decay active frequency remainder soak regs sums backup k =
     record {
       core = k;
       rows =
@@ -30,8 +30,8 @@ entering k level decay active frequency remainder soak regs sums backup =
       backup = now (backup .entry);
     }
 
-abbrev pub leaving : Core → Row → Row → Row → Row → Row → Row → Row → Sums → Sums → Stored
-leaving k level decay active frequency remainder soak regs sums backup =
+abbrev pub leaving : Row → Row → Row → Row → Row → Row → Row → Sums → Sums → Core → Stored
+leaving level decay active frequency remainder soak regs sums backup k =
     record {
       core = k;
       rows =
@@ -47,3 +47,9 @@ leaving k level decay active frequency remainder soak regs sums backup =
       sums = now (sums .exit);
       backup = now (backup .exit);
     }
+
+-- what is said of them as a call begins and as it returns, each with a core
+abbrev pub across : Row → Row → Row → Row → Row → Row → Row → Sums → Sums → ((Core → Stored) → (Core → Stored) → Type 0) → Type 0
+across level decay active frequency remainder soak regs sums backup says =
+    says (entering level decay active frequency remainder soak regs sums backup)
+    (leaving level decay active frequency remainder soak regs sums backup)

@@ -22,7 +22,7 @@ ghost use Rattle.tick.specs.Bridge.{stateOf};
 ghost use Rattle.tick.specs.declared.Core as core;
 ghost use Rattle.unit.specs.Bridge.{Gives, withTally, partsOf, modelOf};
 ghost use Rattle.unit.specs.Events.{eventOf};
-ghost use Rattle.unit.specs.Lent.{entering, leaving};
+ghost use Rattle.unit.specs.Lent.{across};
 use arith::one_to_eight;
 use history::History;
 use history::Tally;
@@ -77,7 +77,7 @@ fn on_tick(
     keys: &[u16; 9],
     sums: &mut [i64; 64],
 ) -> Stepped
-    ensures { λ r. ⌜ ((backup : List ℤ) → length (now (sums .entry)) ≡ 64 → now (keys .entry) ≡ keysFrom (settingsFrom (now (regs .entry))) → Gives (record { core = k; rows = rows.entering level decay active (now (frequency .entry)) remainder soak; regs = now (regs .entry); sums = now (sums .entry); backup = backup }) (events.tick mask lock x) (r .refusal) (record { core = r .core; rows = rows.leaving level decay active (now (frequency .entry)) remainder soak; regs = now (regs .entry); sums = now (sums .exit); backup = backup })) ⌝ }
+    ensures { λ r. ⌜ rows.across level decay active (now (frequency .entry)) remainder soak (λ before after. (backup : List ℤ) → length (now (sums .entry)) ≡ 64 → now (keys .entry) ≡ keysFrom (settingsFrom (now (regs .entry))) → Gives (record { core = k; rows = before; regs = now (regs .entry); sums = now (sums .entry); backup = backup }) (events.tick mask lock x) (r .refusal) (record { core = r .core; rows = after; regs = now (regs .entry); sums = now (sums .exit); backup = backup })) ⌝ }
 {
     let ok = in_range(x);
     if ok {
@@ -220,7 +220,7 @@ pub fn step(
     sums: &mut [i64; 64],
     backup: &mut [i64; 64],
 ) -> Stepped
-    ensures { λ r. ⌜ (now (keys .entry) ≡ keysFrom (settingsFrom (now (regs .entry))) → Gives (entering k level decay active frequency remainder soak regs sums backup) (eventOf e) (r .refusal) (leaving (r .core) level decay active frequency remainder soak regs sums backup)) ⌝ }
+    ensures { λ r. ⌜ across level decay active frequency remainder soak regs sums backup (λ before after. now (keys .entry) ≡ keysFrom (settingsFrom (now (regs .entry))) → Gives (before k) (eventOf e) (r .refusal) (after (r .core))) ⌝ }
     ensures { λ _. ⌜ (now (keys .entry) ≡ keysFrom (settingsFrom (now (regs .entry))) → now (keys .exit) ≡ keysFrom (settingsFrom (now (regs .exit)))) ⌝ }
 {
     places(*sums);
