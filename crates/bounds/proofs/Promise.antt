@@ -11,7 +11,7 @@ use Rattle.rules.specs.Words.{bitOf}
 use Rattle.rules.specs.State.{State}
 use Rattle.rules.specs.Run.{next, run}
 use Rattle.rules.specs.Preference.{Unmasked, Preferred}
-use Rattle.rules.specs.Service.{AllFair, acceptedTicks, Served}
+use Rattle.rules.specs.Service.{AllFair, selectedTicks, readyTicks, acceptedTicks, Served}
 use Rattle.rules.specs.Registers.{fresh}
 use Rattle.rules.proofs.Promise.{promise}
 use Rattle.rules.proofs.Computing.{computing}
@@ -67,7 +67,7 @@ allCounted k = counted k moment
 
 pub kept : Kept
 kept k =
-    subst (λ es. Served 1 moment (ticks k) (run fresh (lead ++ es))) (append-nil (ticks k))
+    subst (λ es. Served (selectedTicks 1 moment) (readyTicks 1 moment) 1 moment (ticks k) (run fresh (lead ++ es))) (append-nil (ticks k))
     (promise lead (ticks k) [] 1 (rw (append-nil (ticks k)) (met k)))
 
 pub notBettered : NotBettered

@@ -51,7 +51,7 @@ AllCounted = (k : ℕ) → acceptedTicks moment (ticks k) ≡ k
 
 -- so the promise comes true on this history
 abbrev pub Kept : Type 0
-Kept = (k : ℕ) → Served 1 moment (ticks k) (run fresh (lead ++ ticks k))
+Kept = (k : ℕ) → Served (selectedTicks 1 moment) (readyTicks 1 moment) 1 moment (ticks k) (run fresh (lead ++ ticks k))
 
 -- one tick fewer than each of the promise's numbers does not serve: the provisos hold and each tick counts, but 2 is still selected; Ready does not stand
 abbrev pub NotBettered : Type 0

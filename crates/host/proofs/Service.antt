@@ -2,7 +2,9 @@
 use Prim.Native.Nat.{ℕ}
 use mathlib.Core.Path.{_≡_, refl, ap, sym, _∙_}
 use mathlib.Core.List.{List, [], _∷_, _++_}
+use native.Mathlib.Omega.{arith}
 use Rattle.rules.specs.Events.{Event}
+use Rattle.rules.specs.Settings.{delay}
 use Rattle.rules.specs.State.{State, Ready, selected}
 use Rattle.rules.specs.History.{ready}
 use Rattle.rules.specs.Registers.{fresh}
@@ -10,12 +12,13 @@ use Rattle.rules.specs.Reading.{read}
 use Rattle.rules.specs.Run as rules
 use Rattle.rules.specs.Run.{outcome, run}
 use Rattle.rules.specs.Sheet.{Decoded, event, bad}
-use Rattle.rules.proofs.Promise.{promise}
+use Rattle.rules.proofs.Counts.{least-delay}
+use Rattle.rules.proofs.Promise.{numbers, promise}
 use Rattle.history.proofs.Kept.{ready-kept}
 use Rattle.unit.specs.Bridge.{modelOf}
 use Rattle.unit.specs.declared.Unit.{Unit as Stored}
 use Rattle.host.specs.Lent.{Places, Leads, wordOf}
-use Rattle.host.specs.Service.{Call, decoded, with, eventsOf, Lent, Holds, ownReady, Agreement, UnitPromise}
+use Rattle.host.specs.Service.{Call, decoded, with, eventsOf, Lent, Holds, ownReady, Agreement, UnitPromise, UnitPromiseInFigures}
 
 -- one call: the rules go on from the state that it left
 goes-on : (u w : Stored) (d : Decoded) (n : ℕ) (es : List Event) → Leads u d n w → run (modelOf u) (with d es) ≡ run (modelOf w) es
@@ -58,3 +61,12 @@ unit-promise before after later r u h p =
     let now = agreement (before ++ (after ++ later)) u h in
     let served = promise before after later r p in
     record { selected-is = λ ticks. now .selected-is ∙ served .selected-is ticks; ready-is = λ ticks. now .ready-is ∙ served .ready-is ticks }
+
+pub unit-promise-in-figures : UnitPromiseInFigures
+unit-promise-in-figures before after later r n u h d p =
+    let served = unit-promise before after later r u h p in
+    let is = least-delay (delay (run fresh before .settings)) n d in
+    record {
+      selected-is = λ ticks. served .selected-is (omega (arith, numbers .qualify));
+      ready-is = λ ticks. served .ready-is (omega (arith, numbers .qualify, numbers .fill));
+    }

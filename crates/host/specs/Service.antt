@@ -1,17 +1,19 @@
 -- Document 01, demands 2 and 3, of the unit itself: what a host holds that makes a unit and lends it for each event.
-use Prim.Native.Nat.{ℕ, _≤_}
+use Prim.Native.Nat.{ℕ, _+_, _≤_}
 use mathlib.Core.Path.{_≡_}
 use mathlib.Core.Bool.{Bool, true}
 use mathlib.Core.List.{List, [], _∷_, _++_}
 use lib.Dec.{leb}
 use lib.IntN.{ℤ}
 use Rattle.rules.specs.Events.{Event}
+use Rattle.rules.specs.Settings.{delay}
 use Rattle.rules.specs.State.{State, selected, Ready}
 use Rattle.rules.specs.History.{readyBlocks}
 use Rattle.rules.specs.Registers.{fresh}
 use Rattle.rules.specs.Reading.{read}
 use Rattle.rules.specs.Run.{run}
 use Rattle.rules.specs.Sheet.{Decoded, event, bad, fields}
+use Rattle.rules.specs.Laws.{LeastDelay}
 use Rattle.rules.specs.Service.{Provisos, selectedTicks, readyTicks, acceptedTicks}
 use Rattle.unit.specs.Bridge.{modelOf}
 use Rattle.unit.specs.declared.Unit.{Unit as Stored}
@@ -76,10 +78,11 @@ Agreement = (es : List Event) (u : Stored) → Holds es u → Agrees es u
 
 -- ---- demand 3
 
--- what is promised of the unit that the host holds, where s is the rules' state at the moment and `after`, or more events, have come since
-pub record UnitServed (r : ℕ) (s : State) (after : List Event) (u : Stored) : Type 0 where
-  pub selected-is : selectedTicks r s ≤ acceptedTicks s after → ownSelected u ≡ r
-  pub ready-is : readyTicks r s ≤ acceptedTicks s after → ownReady u ≡ true
+-- what is promised of the unit that the host holds, where s is the rules' state at the moment and `after`, or more events, have come since: r is selected if
+-- `toSelected` accepted ticks stand in `after`, and Ready stands if `toReady` do
+pub record UnitServed (toSelected toReady r : ℕ) (s : State) (after : List Event) (u : Stored) : Type 0 where
+  pub selected-is : toSelected ≤ acceptedTicks s after → ownSelected u ≡ r
+  pub ready-is : toReady ≤ acceptedTicks s after → ownReady u ≡ true
 
 -- THE PROMISE OF SERVICE OF THE UNIT. Take every list of events from a fresh unit, `before`, `after` and `later`, with the moment after `before`, every
 -- reference r for which the provisos hold, and every unit u that the host holds after the list. After the accepted tick with number 860 + n, counted from
@@ -89,4 +92,13 @@ UnitPromise =
     (before after later : List Event) (r : ℕ) (u : Stored)
     → Holds (before ++ (after ++ later)) u
     → Provisos r (run fresh before) (after ++ later)
-    → UnitServed r (run fresh before) after u
+    → UnitServed (selectedTicks r (run fresh before)) (readyTicks r (run fresh before)) r (run fresh before) after u
+
+-- The same in the customer's figures: "n is the least whole number with 4n at least 1,875 times the reversion delay in minutes."
+abbrev pub UnitPromiseInFigures : Type 0
+UnitPromiseInFigures =
+    (before after later : List Event) (r n : ℕ) (u : Stored)
+    → Holds (before ++ (after ++ later)) u
+    → LeastDelay (delay (run fresh before .settings)) n
+    → Provisos r (run fresh before) (after ++ later)
+    → UnitServed (860 + n) (6_379 + n) r (run fresh before) after u

@@ -15,7 +15,7 @@ use Rattle.rules.specs.Registers.{fresh, freshFrom}
 use Rattle.rules.specs.Reading.{hours}
 use Rattle.rules.specs.Refusals.{refusal, accepted}
 use Rattle.rules.specs.Run.{afterMeasurement, afterHit, afterWrite, effect, next, run}
-use Rattle.rules.specs.Laws.{Delays, Lawful, heldAfter, heldTicks, Hours}
+use Rattle.rules.specs.Laws.{LeastDelay, Delays, Lawful, heldAfter, heldTicks, Hours}
 use Rattle.rules.proofs.Tests.{if-case, by-test, zero-if}
 use Rattle.rules.proofs.Invariants.{lawful-next, lawful-fresh}
 
@@ -23,6 +23,13 @@ use Rattle.rules.proofs.Invariants.{lawful-next, lawful-fresh}
 pub delays : Delays
 unfolding delayTicks
 delays = omega arith
+
+-- and no other number is
+pub least-delay : (minutes n : ℕ) → LeastDelay minutes n → delayTicks minutes ≡ n
+least-delay minutes n d =
+    let most = d .least (delayTicks minutes) (delays minutes .enough) in
+    let least = delays minutes .least n (d .enough) in
+    omega arith
 
 -- the count that stops shows the hours that the count with no bound shows
 hours-shown : (n : ℕ) → min 255 (min holdingLimit n / hourTicks) ≡ min 255 (n / hourTicks)

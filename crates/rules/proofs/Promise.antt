@@ -10,17 +10,18 @@ use borrow.Author.Tests.{le-leb, eq-eqb}
 use Rattle.rules.specs.Words.{isInput}
 use Rattle.rules.specs.Events.{Event}
 use Rattle.rules.specs.Monitors.{bucket, bucketOf}
-use Rattle.rules.specs.Settings.{reversion}
+use Rattle.rules.specs.Settings.{delay, reversion}
 use Rattle.rules.specs.Selection.{input}
 use Rattle.rules.specs.History.{readyBlocks, ready}
 use Rattle.rules.specs.State.{State, selected, Ready}
 use Rattle.rules.specs.Registers.{fresh}
 use Rattle.rules.specs.Run.{next, run}
 use Rattle.rules.specs.Laws.{Lawful}
-use Rattle.rules.specs.Service.{Provisos, qualifyTicks, fillTicks, Numbers, acceptedTicks, Served, Promise}
+use Rattle.rules.specs.Service.{Provisos, qualifyTicks, fillTicks, selectedTicks, readyTicks, Numbers, acceptedTicks, Served, Promise, PromiseInFigures}
 use Rattle.rules.proofs.Tests.{is-between}
 use Rattle.rules.proofs.OneInput.{bucket-works, calm-start}
 use Rattle.rules.proofs.Invariants.{invariants}
+use Rattle.rules.proofs.Counts.{least-delay}
 use Rattle.rules.proofs.Progress.{leading, Filled, Serving, early, waits, serves, phaseOf, Going, going-run}
 
 -- a list run in two parts
@@ -66,7 +67,9 @@ module _ (n r k : ℕ) (s : State) (g : Going n r k s) where
       go (serves lo e sv) = far sv
 
 -- from any lawful state at the moment
-served-from : (s : State) (after later : List Event) (r : ℕ) → Lawful s → Provisos r s (after ++ later) → Served r s after (run s (after ++ later))
+served-from : (s : State) (after later : List Event) (r : ℕ)
+    → Lawful s → Provisos r s (after ++ later)
+    → Served (selectedTicks r s) (readyTicks r s) r s after (run s (after ++ later))
 served-from s after later r w p =
     record { selected-is = λ h. selected-at n r K now going (omega (arith, more)); ready-is = λ h. ready-at n r K now going (omega (arith, more)) }
   where
@@ -103,3 +106,13 @@ served-from s after later r w p =
 pub promise : Promise
 promise before after later r p =
     rw (run-append before (after ++ later) fresh) (served-from (run fresh before) after later r (invariants before) p)
+
+-- THE PROMISE IN FIGURES
+pub promise-in-figures : PromiseInFigures
+promise-in-figures before after later r n d p =
+    let served = promise before after later r p in
+    let is = least-delay (delay (run fresh before .settings)) n d in
+    record {
+      selected-is = λ h. served .selected-is (omega (arith, numbers .qualify));
+      ready-is = λ h. served .ready-is (omega (arith, numbers .qualify, numbers .fill));
+    }

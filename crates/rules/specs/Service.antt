@@ -8,13 +8,14 @@ use Rattle.rules.specs.Words.{if_then_else_, bitOf}
 use Rattle.rules.specs.Events.{Event, tick, measurement, hit, write, isTick}
 use Rattle.rules.specs.Monitors.{Bucket, bucket, bucketOf, fullSoak, alarmTicks}
 use Rattle.rules.specs.Pll.{lockTicks}
-use Rattle.rules.specs.Settings.{qualification, reversion}
+use Rattle.rules.specs.Settings.{qualification, delay, reversion}
 use Rattle.rules.specs.Selection.{input}
 use Rattle.rules.specs.History.{blockSamples, readyBlocks}
 use Rattle.rules.specs.State.{State, selected, Ready}
 use Rattle.rules.specs.Registers.{fresh}
 use Rattle.rules.specs.Refusals.{accepted}
 use Rattle.rules.specs.Run.{next, run}
+use Rattle.rules.specs.Laws.{LeastDelay}
 use Rattle.rules.specs.Preference.{Automatic, Preferred}
 
 -- ---- the events from the moment on
@@ -82,10 +83,11 @@ acceptedTicks s (e ∷ es) = (if isTick e && accepted s e then 1 else 0) + accep
 
 -- ---- the promise
 
--- what is promised of a state `now` that `after`, or more events, have led to from the moment, whose state is s
-pub record Served (r : ℕ) (s : State) (after : List Event) (now : State) : Type 0 where
-  pub selected-is : selectedTicks r s ≤ acceptedTicks s after → selected now ≡ r
-  pub ready-is : readyTicks r s ≤ acceptedTicks s after → Ready now ≡ true
+-- what is promised of a state `now` that `after`, or more events, have led to from the moment, whose state is s: r is selected if `toSelected` accepted ticks
+-- stand in `after`, and Ready stands if `toReady` do
+pub record Served (toSelected toReady r : ℕ) (s : State) (after : List Event) (now : State) : Type 0 where
+  pub selected-is : toSelected ≤ acceptedTicks s after → selected now ≡ r
+  pub ready-is : toReady ≤ acceptedTicks s after → Ready now ≡ true
 
 -- Take every list of events from a fresh unit, `before`, `after` and `later`, with the moment after `before`, and every reference r for which the provisos
 -- hold. After the accepted tick with number 860 + n, counted from the moment, and after every later event, r is selected; after the one with number
@@ -94,4 +96,12 @@ abbrev pub Promise : Type 0
 Promise =
     (before after later : List Event) (r : ℕ)
     → Provisos r (run fresh before) (after ++ later)
-    → Served r (run fresh before) after (run fresh (before ++ (after ++ later)))
+    → Served (selectedTicks r (run fresh before)) (readyTicks r (run fresh before)) r (run fresh before) after (run fresh (before ++ (after ++ later)))
+
+-- The same in the customer's figures: "n is the least whole number with 4n at least 1,875 times the reversion delay in minutes."
+abbrev pub PromiseInFigures : Type 0
+PromiseInFigures =
+    (before after later : List Event) (r n : ℕ)
+    → LeastDelay (delay (run fresh before .settings)) n
+    → Provisos r (run fresh before) (after ++ later)
+    → Served (860 + n) (6_379 + n) r (run fresh before) after (run fresh (before ++ (after ++ later)))

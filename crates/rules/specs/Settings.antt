@@ -44,9 +44,13 @@ usable set c = if eqb c 9 then bit (set 0x24) 4 else (isInput c && bitOf (set 0x
 unfoldable pub ahead : Settings → ℕ → ℕ → Bool
 ahead set a b = ltb (priority set a) (priority set b) || (eqb (priority set a) (priority set b) && ltb a b)
 
--- 0x43, "delay in minutes", in ticks: "n being the least with 4n ≥ 1,875 times the delay in minutes" (`Delays` in Laws)
+-- 0x43: "delay in minutes"
+abbrev pub delay : Settings → ℕ
+delay set = set 0x43
+
+-- in ticks: "n being the least with 4n ≥ 1,875 times the delay in minutes" (`Delays` in Laws)
 unfoldable pub delayTicks : ℕ → ℕ
 delayTicks minutes = (1875 * minutes + 3) / 4
 
 abbrev pub reversion : Settings → ℕ
-reversion set = delayTicks (set 0x43)
+reversion set = delayTicks (delay set)
