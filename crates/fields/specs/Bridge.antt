@@ -10,7 +10,7 @@ use Rattle.unit.specs.Events.{eventOf}
 use Rattle.fields.specs.declared.Decoded.{Decoded}
 use Rattle.fields.specs.declared.Decoded.the-variants.{Event, Bad}
 
--- the number of `Bad` is 12: "kind over 3, lock over 1, or unused field not 0"
+-- case by case; the number of each is `decodedNumber`
 abbrev pub decodedOf : Decoded → rules.Decoded
 decodedOf (Event e) = event (eventOf e)
 decodedOf Bad = bad

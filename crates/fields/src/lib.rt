@@ -6,10 +6,20 @@ ghost use Rattle.fields.specs.Bridge.{decodedOf, wordlessOf};
 use arith::both;
 use unit::Event;
 
-// What the fields are: an event, or none, which is refusal 12.
+// What the fields are: an event, or none.
 pub enum Decoded {
     Event(Event),
     Bad,
+}
+
+// The rule `decodedNumber`: 0 for an event; 12, "kind over 3, lock over 1, or unused field not 0".
+pub fn number_of(d: Decoded) -> u8
+    ensures { λ r. ⌜ r ≡ rules.decodedNumber (decodedOf d) ⌝ }
+{
+    match d {
+        Decoded::Event(_) => 0,
+        Decoded::Bad => 12,
+    }
 }
 
 // The word is 0.

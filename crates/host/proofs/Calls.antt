@@ -1,7 +1,8 @@
 -- The two ways that a call with an event's fields goes.
+use Prim.Native.Nat.{ℕ}
 use mathlib.Core.Path.{_≡_, refl, ap, _∙_}
 use Rattle.rules.specs.Events as rules
-use Rattle.rules.specs.Sheet.{Decoded, event, bad}
+use Rattle.rules.specs.Sheet.{Decoded, event, bad, decodedNumber}
 use Rattle.unit.specs.Bridge.{Stored, Gives, partsOf, modelOf}
 use Rattle.unit.specs.declared.Unit as code
 use Rattle.unit.specs.declared.Outcome.{Outcome}
@@ -20,8 +21,8 @@ unitOf s =
     }
 
 -- the fields are no event
-pub no-event : (u : code.Unit) (d : Decoded) → bad ≡ d → Places u → Leads u d 12 u
-no-event u d e places = record { rules = ap (given (modelOf u)) e; left = λ some. refl; places = places }
+pub no-event : (u : code.Unit) (d : Decoded) {n : ℕ} → bad ≡ d → n ≡ decodedNumber d → Places u → Leads u d n u
+no-event u d e is places = record { rules = rw (is, ← e) refl; left = λ some. refl; places = places }
 
 -- the fields are an event, which was handled
 pub handled : (u : code.Unit) (e : rules.Event) (d : Decoded) (o : Outcome)

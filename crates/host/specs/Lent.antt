@@ -6,7 +6,7 @@ use Rattle.rules.specs.State.{State}
 use Rattle.rules.specs.Registers.{fresh}
 use Rattle.rules.specs.Run.{Outcome, outcome}
 use Rattle.rules.specs.Reading.{Answer, read}
-use Rattle.rules.specs.Sheet.{Decoded, event, bad}
+use Rattle.rules.specs.Sheet.{Decoded, event, bad, decodedNumber}
 use Rattle.unit.specs.Bridge.{modelOf}
 use Rattle.unit.specs.declared.Unit as code
 
@@ -19,10 +19,10 @@ pub record Made (u : code.Unit) : Type 0 where
   pub rules : modelOf u ≡ fresh
   pub places : Places u
 
--- what decoded fields give in state s: the event's outcome, or 12, "kind over 3, lock over 1, or unused field not 0", and the state "as before"
+-- what decoded fields give in state s: the event's outcome, or the number of no event and the state "as before"
 abbrev pub given : State → Decoded → Outcome
 given s (event e) = outcome s e
-given s bad = record { refusal = 12; state = s }
+given s bad = record { refusal = decodedNumber bad; state = s }
 
 -- What `unit_event` says of a call with these fields that finds unit u, returns n and leaves unit v: number and state are the rules', and a call that is
 -- turned down leaves the stored unit itself as it was.

@@ -31,7 +31,7 @@ pub record Call : Type 0 where
 abbrev pub decoded : Call → Decoded
 decoded c = fields (c .kind) (c .a) (c .b) (c .word)
 
--- the events of a list of calls: a call whose fields are none, refusal 12, is not one of them
+-- the events of a list of calls: a call whose fields are none is not one of them
 unfoldable pub with : Decoded → List Event → List Event
 with (event e) es = e ∷ es
 with bad es = es

@@ -10,13 +10,14 @@ use unit::Unit;
 
 // ---- by value
 
-// One event, given by its fields: 12 if they are no event, and the same unit on every refusal.
+// One event, given by its fields: their number if they are no event, and the same unit on every refusal.
 pub fn event(u: Unit, kind: u8, a: u8, b: u8, word: i32) -> Outcome
     ensures { λ r. ⌜ Leads u (fields kind a b word) (r .refusal) (r .unit) ⌝ }
 {
-    let Decoded::Event(e) = fields::decode(kind, a, b, word) else {
+    let d = fields::decode(kind, a, b, word);
+    let Decoded::Event(e) = d else {
         return Outcome {
-            refusal: 12,
+            refusal: fields::number_of(d),
             unit: u,
         };
     };

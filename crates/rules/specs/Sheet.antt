@@ -32,10 +32,15 @@ signedWord n = signed 2_147_483_648 n
 
 -- ---- an event
 
--- 12: "kind over 3, lock over 1, or unused field not 0"
+-- what the fields of an event are: an event, or none
 pub data Decoded : Type 0 where
   event : Event → Decoded
   bad : Decoded
+
+-- its number: 0, or 12, "kind over 3, lock over 1, or unused field not 0"
+abbrev pub decodedNumber : Decoded → ℕ
+decodedNumber (event e) = 0
+decodedNumber bad = 12
 
 abbrev pub isZero : ℤ → Bool
 isZero z = eqb (natAbs z) 0
@@ -113,8 +118,7 @@ sheetEvents s = settingsOf (settingsCount s) (drop 2 s) ++ eventsOf (eventsCount
 -- ---- the check
 
 unfoldable pub isEvent : Decoded → Bool
-isEvent (event e) = true
-isEvent bad = false
+isEvent d = eqb (decodedNumber d) 0
 
 -- each of k events is one
 unfoldable pub allEvents : ℕ → List ℕ → Bool
@@ -126,13 +130,13 @@ unfoldable pub recordCount : List ℕ → ℕ
 recordCount s = settingsCount s + eventsCount s
 
 -- "Checking a sheet against an output's length returns its number, 0 if it will run". 9: "sheet over 65,535 bytes, or a settings count over 256";
--- 10: "sheet ends early"; 11: "bytes after the events"; 12; 13: "output under 4 bytes a record"
+-- 10: "sheet ends early"; 11: "bytes after the events"; the number of an event that is none; 13: "output under 4 bytes a record"
 unfoldable pub check : List ℕ → ℕ → ℕ
 check s room =
     if ltb 65_535 (length s) || ltb 256 (settingsCount s) then 9
     else (if ltb (length s) (sheetEnd s) then 10
     else (if ltb (sheetEnd s) (length s) then 11
-    else (if not (allEvents (eventsCount s) (drop (eventsAt s + 2) s)) then 12
+    else (if not (allEvents (eventsCount s) (drop (eventsAt s + 2) s)) then decodedNumber bad
     else (if ltb room (4 * recordCount s) then 13
     else 0))))
 

@@ -6,7 +6,7 @@ use mathlib.Core.List.{List}
 use native.Mathlib.Omega.{arith}
 use borrow.Author.Tests.{lt-ltb, le-ltb, ltb-false, not-false}
 use lib.ListN.{length, drop, getD, List·getD-eq-default}
-use Rattle.rules.specs.Sheet.{settingsCount, eventsCount, eventsAt, sheetEnd, allEvents, recordCount, check}
+use Rattle.rules.specs.Sheet.{bad, decodedNumber, settingsCount, eventsCount, eventsAt, sheetEnd, allEvents, recordCount, check}
 use Rattle.rules.proofs.Tests.{unrefused, or-true, or-false}
 
 -- the events of a sheet are all events
@@ -37,7 +37,7 @@ module _ (s : List ℕ) (room : ℕ) where
       let e : sheetEnd s ≤ length s = omega arith in
       simp (le-ltb _ _ (a .short), le-ltb _ _ (a .few), le-ltb _ _ e, lt-ltb _ _ h)
 
-  pub has-bad : Sized s → length s ≡ sheetEnd s → allEvents (eventsCount s) (drop (eventsAt s + 2) s) ≡ false → check s room ≡ 12
+  pub has-bad : Sized s → length s ≡ sheetEnd s → allEvents (eventsCount s) (drop (eventsAt s + 2) s) ≡ false → check s room ≡ decodedNumber bad
   unfolding check
   has-bad a e g =
       let l : sheetEnd s ≤ length s = omega arith in

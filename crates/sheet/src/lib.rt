@@ -153,5 +153,5 @@ pub fn check(sheet: &[u8], room: usize) -> u8
         }
         return 0;
     }
-    12
+    fields::number_of(Decoded::Bad)
 }

@@ -1,7 +1,7 @@
 -- No event, or one that is handled.
 use mathlib.Core.Path.{_≡_, ap, sym, _∙_}
 use borrow.Author.Needs.{needs}
-use Rattle.rules.specs.Sheet.{event, fields}
+use Rattle.rules.specs.Sheet.{event, decodedNumber, fields}
 use Rattle.fields.specs.Bridge.{decodedOf}
 use Rattle.unit.specs.Events.{eventOf}
 use Rattle.host.proofs.Arrays.{places-of, places-after}
@@ -13,19 +13,21 @@ use Rattle.host.proofs.event.Tie as tie
 -- the event that was handled is that of the fields
 known : (c : tie.After-handle)
     → let a = c .before .before .before .before .before .args in
-    event (eventOf (c .before .before .e .given .0 .0)) ≡ fields (a .kind) (a .a) (a .b) (a .word)
+    event (eventOf (c .before .before .d .given .0 .0)) ≡ fields (a .kind) (a .a) (a .b) (a .word)
 known c =
     let s = c .before .before .before .before .before in
     let a = s .args in
-    sym (ap decodedOf (c .before .before .e .given .1)) ∙ c .before .before .before .before .decode .ensures
+    sym (ap decodedOf (c .before .before .d .given .1)) ∙ c .before .before .before .before .decode .ensures
     ∙ ap (fields (a .kind) (a .a) (a .b)) (toZ-ofZ (s .fits .word))
 
 returns : tie.Need-returns
 returns c =
-    let s = c .before .before .before in
+    let read = c .before .before .before in
+    let s = read .before in
     let a = s .args in
-    let told = c .before .before .decode .ensures ∙ ap (fields (a .kind) (a .a) (a .b)) (toZ-ofZ (s .fits .word)) in
-    no-event (a .u) (fields (a .kind) (a .a) (a .b) (a .word)) (sym (ap decodedOf (c .enum-told .given .1)) ∙ told) (places-of (a .u) _ (s .good .0))
+    let told = read .decode .ensures ∙ ap (fields (a .kind) (a .a) (a .b)) (toZ-ofZ (s .fits .word)) in
+    no-event (a .u) (fields (a .kind) (a .a) (a .b) (a .word)) (sym (ap decodedOf (c .before .enum-told .given .1)) ∙ told)
+    (c .number-of .ensures ∙ ap decodedNumber told) (places-of (a .u) _ (s .good .0))
 
 returns-2 : tie.Need-returns-2
 returns-2 c =
@@ -33,4 +35,4 @@ returns-2 c =
     handled _ _ _ (h .result) (known c) (h .ensures) (places-after (h .result) _ (h .ok))
 
 pub event-spec : {M : Type 1} → statement M
-event-spec = tie.close (tie.spec (search needs) (search needs) (search needs) returns (search needs) returns-2)
+event-spec = tie.close (tie.spec (search needs) (search needs) (search needs) (search needs) returns (search needs) returns-2)

@@ -87,8 +87,9 @@ returns-8 c =
 
 returns-9 : tie.Need-returns-9
 returns-9 c =
-    let tested = c .before .before .before in
-    sym (has-bad _ _ (sized (tested .before .before .before .before)) (whole tested) (sym (good-is (c .before)) ∙ c .if7 .left))
+    let tested = c .before .before .before .before in
+    c .number-of .ensures
+    ∙ sym (has-bad _ _ (sized (tested .before .before .before .before)) (whole tested) (sym (good-is (c .before .before)) ∙ c .before .if7 .left))
 
 pub check-spec : {M : Type 1} → statement M
 check-spec =
@@ -116,4 +117,5 @@ check-spec =
     (search needs)
     returns-7
     returns-8
+    (search needs)
     returns-9)
