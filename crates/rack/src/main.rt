@@ -4,7 +4,8 @@ ghost use Rattle.rack.specs.Front.{Front};
 use libc::STDIN_FILENO;
 use libc::STDOUT_FILENO;
 
-// The rule `printed`: the text of a sheet, at the front of the lent array, and its length. There is room for the most records that a sheet gives, 8,383.
+// The rule `printed`: the text of a sheet, at the front of the lent array, and its length. It is that of the part that the run hands back; there is room for
+// the most records that a sheet gives, 8,383.
 fn print_sheet(sheet: &[u8], out: &mut [u8; 151000]) -> usize
     ensures { λ r. ⌜ Front (printed (now (sheet .entry))) (now (out .entry)) r (now (out .exit)) ⌝ }
 {
@@ -13,8 +14,8 @@ fn print_sheet(sheet: &[u8], out: &mut [u8; 151000]) -> usize
     if number != 0 {
         return text::refused(number, out);
     }
-    let n = run::run_into(sheet, &mut records);
-    text::lines(&records[..n], out)
+    let part = run::run(sheet, &mut records);
+    text::lines(part, out)
 }
 
 // "The program reads a sheet from standard input": all of it, or as much as shows that it is over 65,535 bytes.
