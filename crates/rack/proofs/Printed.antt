@@ -6,8 +6,7 @@ use mathlib.Core.List.{List, _++_}
 use native.Mathlib.Omega.{arith}
 use borrow.Author.Tests.{ltb-false, le-ltb, ne-eqb}
 use lib.Dec.{ltb}
-use lib.ListN.{length, take, drop, length-append}
-use lib.Seq.{take-at}
+use lib.ListN.{length, drop, length-append}
 use Rattle.rules.specs.Sheet.{settingsCount, eventsAt, eventsCount, sheetEnd, recordCount, check, front}
 use Rattle.rules.specs.Printout.{recordsWord, refusedWord, headLine, recordLines, printed}
 use Rattle.rules.proofs.Tests.{by-test, or-false}
@@ -55,10 +54,6 @@ printed-records s out room zero =
     let same : f ≡ front s (4 * n) = ap (front s) room ∙ same-front s in
     rw (number) (ap (λ (k : ℕ). headLine recordsWord k ++ recordLines k 0 f) count ∙ ap (λ (l : List ℕ). headLine recordsWord n ++ recordLines n 0 l) same)
 
--- the front part of a list that a text stands in front of
-module _ (text before after : List ℕ) (n : ℕ) (f : Front text before n after) where
-  pub front-taken : take n after ≡ text
-  front-taken = ap (take n) (f .left) ∙ take-at text (drop (length text) before) n (sym (f .count))
-
-  pub front-within : n ≤ length after
-  front-within = omega (arith, f .count, ap length (f .left), length-append text (drop (length text) before))
+-- a text that stands in front of a list stands within it
+pub front-within : (text before after : List ℕ) (n : ℕ) → Front text before n after → n ≤ length after
+front-within text before after n f = omega (arith, f .count, ap length (f .left), length-append text (drop (length text) before))
