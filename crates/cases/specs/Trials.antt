@@ -99,6 +99,7 @@ table =
     ∷ frequencyAlarm after (measured 1 (pos 32) ++ measured 1 (pos 25)) is clear
     -- E "fresh: 0x44 = 30 gives 4; after 0x45 = 24 it is accepted."
     ∷ writing 0x44 30 after [] is 4
+    ∷ writing 0x45 24 after [] is 0
     ∷ writing 0x44 30 after (0x45 ≔ 24) is 0
     -- F "automatic, measurement 0 on input 1, 78 clean ticks: 0x48 is 0x00; the 79th: 0x21."
     ∷ register 0x48 after (automatic ++ measured 1 (pos 0) ++ clean 78) is 0x00
