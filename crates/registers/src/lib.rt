@@ -5,7 +5,7 @@ ghost use mathlib.Core.Path.{_≡_};
 ghost use Prim.Native.Nat.{_+_};
 ghost use lib.ListN.{length};
 ghost use Rattle.rules.specs.Settings as settings;
-ghost use Rattle.rules.specs.Registers as map;
+ghost use Rattle.rules.specs.Registers as rules;
 ghost use Rattle.rules.specs.Registers.{settingsFrom, freshTable};
 ghost use Rattle.registers.specs.Bridge.{row};
 
@@ -116,7 +116,7 @@ const TABLE: [Register; 27] = [
 
 // The place of an address in the map, 0 to 26; 27 for an address that is not in it.
 pub fn place(a: u8) -> usize
-    ensures { λ r. ⌜ r ≡ map.place a ⌝ }
+    ensures { λ r. ⌜ r ≡ rules.place a ⌝ }
 {
     if a < 0x1c {
         return 27;
@@ -135,14 +135,14 @@ pub fn place(a: u8) -> usize
 
 // Whether an address is in the map.
 pub fn in_map(a: u8) -> bool
-    ensures { λ r. ⌜ r ≡ map.inMap a ⌝ }
+    ensures { λ r. ⌜ r ≡ rules.inMap a ⌝ }
 {
     place(a) < 27
 }
 
 // A register's row by its address; an address that is not in the map has the row of one that is read only.
 pub fn register_at(a: u8) -> Register
-    ensures { λ r. ⌜ r ≡ row (map.register a) ⌝ }
+    ensures { λ r. ⌜ r ≡ row (rules.register a) ⌝ }
 {
     let k = place(a);
     if k < 27 {

@@ -11,7 +11,7 @@ use mir.Val.{SFits, toZ, ofZ}
 use mir.Facts.{toZ-ofZ, toZ-pos}
 use borrow.Author.Tests.{ltb-true, le-ltb}
 use Rattle.history.proofs.Sums.{stored}
-use Rattle.value.specs.Signed.{signed}
+use Rattle.value.specs.Signed.{bySign}
 
 -- −1 − z of a number that is not below 0, and of one that is
 flip-pos : (n : ℕ) → negsuc 0 -ℤ pos n ≡ negsuc n
@@ -53,11 +53,11 @@ module _ (z : ℤ) (f : SFits w64 z) where
   stays h = toZ-ofZ f ∙ sym (above h)
 
 -- the magnitude of a number of 64 bits
-pub signed-lt : (b : Bool) (n : ℕ) {z : ℤ} → signed b n ≡ z → SFits w64 z → n < 2 ^ 63
-signed-lt true n e f = omega (arith, ap mag e, f .sfits)
-signed-lt false n e f = omega (arith, ap mag e, f .sfits)
+pub by-sign-lt : (b : Bool) (n : ℕ) {z : ℤ} → bySign b n ≡ z → SFits w64 z → n < 2 ^ 63
+by-sign-lt true n e f = omega (arith, ap mag e, f .sfits)
+by-sign-lt false n e f = omega (arith, ap mag e, f .sfits)
 
 -- a quotient rounded down keeps the sign
-pub shr-signed : (b : Bool) (m n : ℕ) → signed b (m / n) ≡ shrZ (signed b m) n
-shr-signed true m n = refl
-shr-signed false m n = refl
+pub shr-by-sign : (b : Bool) (m n : ℕ) → bySign b (m / n) ≡ shrZ (bySign b m) n
+shr-by-sign true m n = refl
+shr-by-sign false m n = refl

@@ -4,5 +4,5 @@ use mathlib.Core.Bool.{Bool}
 use lib.IntN.{ℤ, pos, negsuc}
 use Rattle.rules.specs.Words.{if_then_else_}
 
-abbrev pub signed : Bool → ℕ → ℤ
-signed below n = if below then negsuc n else pos n
+abbrev pub bySign : Bool → ℕ → ℤ
+bySign below n = if below then negsuc n else pos n

@@ -6,7 +6,7 @@ ghost use lib.Signed.{shrZ};
 ghost use Rattle.rules.specs.History.{sumOf, value};
 ghost use Rattle.rules.specs.Reading.{twos};
 ghost use Rattle.history.specs.Bridge.{keptOf, wholeOf};
-ghost use Rattle.value.specs.Signed.{signed};
+ghost use Rattle.value.specs.Signed.{bySign};
 use arith::least;
 use history::History;
 use history::within;
@@ -21,7 +21,7 @@ struct Parts {
 
 // The parts of a number.
 fn split(z: i64) -> Parts
-    ensures { λ r. ⌜ signed (r .below) (r .n) ≡ z ⌝ }
+    ensures { λ r. ⌜ bySign (r .below) (r .n) ≡ z ⌝ }
 {
     if z < 0 {
         return Parts {
@@ -38,7 +38,7 @@ fn split(z: i64) -> Parts
 // The number of its parts.
 fn joined(below: bool, n: u64) -> i64
     requires { ⌜ n < 2 ^ 63 ⌝ }
-    ensures { λ r. ⌜ r ≡ signed below n ⌝ }
+    ensures { λ r. ⌜ r ≡ bySign below n ⌝ }
 {
     if below {
         return -1 - (n as i64);

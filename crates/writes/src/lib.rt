@@ -4,7 +4,7 @@ ghost use mathlib.Core.Bool.{_&&_};
 ghost use Prim.Native.Nat.{_+_};
 ghost use lib.Dec.{leb, eqb};
 ghost use Rattle.rules.specs.Words.{if_then_else_};
-ghost use Rattle.rules.specs.Registers as map;
+ghost use Rattle.rules.specs.Registers as rules;
 ghost use Rattle.rules.specs.Registers.{settingsFrom};
 ghost use Rattle.rules.specs.Refusals.{limitsRefused, commandRefused, writeRefusal};
 use registers::bytes;
@@ -15,7 +15,7 @@ use registers::setting;
 
 // What a write stores: "inputs 1 to 8: .. bits 7-4 ignored, read 0".
 fn stored(a: u8, v: u8) -> u8
-    ensures { λ r. ⌜ r ≡ map.stored a v ⌝ }
+    ensures { λ r. ⌜ r ≡ rules.stored a v ⌝ }
 {
     if a <= 0x23 { v % 16 } else { v }
 }
@@ -23,7 +23,7 @@ fn stored(a: u8, v: u8) -> u8
 // The registers after a write that was not turned down, of any address but 0x26, which is a command to the history.
 // Of an address that is not in the map nothing is stored.
 pub fn written(regs: &mut [u8; 27], a: u8, v: u8)
-    ensures { λ _. ⌜ settingsFrom (now (regs .exit)) ≡ (if map.inMap a then map.written a v (settingsFrom (now (regs .entry))) else settingsFrom (now (regs .entry))) ⌝ }
+    ensures { λ _. ⌜ settingsFrom (now (regs .exit)) ≡ (if rules.inMap a then rules.written a v (settingsFrom (now (regs .entry))) else settingsFrom (now (regs .entry))) ⌝ }
 {
     let k = place(a);
     if k < 27 {

@@ -4,14 +4,14 @@ use mathlib.Core.Path.{_≡_, refl}
 use native.Mathlib.Omega.{arith}
 use borrow.Author.Needs.{needs}
 use lib.ListN.{length, take}
-use Rattle.rules.specs.Registers as map
+use Rattle.rules.specs.Registers as rules
 use Rattle.registers.specs.Bridge.{row}
 use Rattle.registers.proofs.Table.{column-more, column-all}
 use Rattle.registers.proofs.fresh_registers.Statement.{statement}
 use Rattle.registers.proofs.fresh_registers.Tie as tie
 
 abbrev Inv-loop : tie.InvT-loop
-Inv-loop table regs₀ k₀ regs k = (k ≤ 27) × (length regs ≡ 27) × (take k regs ≡ take k map.freshTable)
+Inv-loop table regs₀ k₀ regs k = (k ≤ 27) × (length regs ≡ 27) × (take k regs ≡ take k rules.freshTable)
 
 abbrev μ-loop : tie.MeasureT-loop
 μ-loop table regs₀ k₀ regs k = 27 - k
@@ -35,7 +35,7 @@ loop-less : tie.Need-loop-less Inv-loop μ-loop
 loop-less c = search needs
 
 loop-again : tie.Need-loop-again Inv-loop μ-loop
-unfolding map.registers row
+unfolding rules.registers row
 loop-again c = (omega arith, search needs, column-more _ _ refl _ _ (c .before .loop .inv .1) (c .loop-test .taken) (c .before .loop .inv .2))
 
 returns : tie.Need-returns Inv-loop μ-loop

@@ -1,11 +1,11 @@
 -- `in_map` meets its contract, by what `place` ensures.
 use borrow.Author.Needs.{needs}
-use Rattle.rules.specs.Registers as map
+use Rattle.rules.specs.Registers as rules
 use Rattle.registers.proofs.in_map.Statement.{statement}
 use Rattle.registers.proofs.in_map.Tie as tie
 
 returns : tie.Need-returns
-unfolding map.inMap
+unfolding rules.inMap
 returns c = rw (c .place .ensures)
 
 pub in-map-spec : {M : Type 1} → statement M

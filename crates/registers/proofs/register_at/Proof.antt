@@ -1,14 +1,14 @@
 -- `register_at` meets its contract: the table is the rules' table, row by row.
 use mathlib.Core.Path.{refl}
 use borrow.Author.Needs.{needs}
-use Rattle.rules.specs.Registers as map
+use Rattle.rules.specs.Registers as rules
 use Rattle.registers.specs.Bridge.{row}
 use Rattle.registers.proofs.Table.{row-at, row-outside}
 use Rattle.registers.proofs.register_at.Statement.{statement}
 use Rattle.registers.proofs.register_at.Tie as tie
 
 returns : tie.Need-returns
-unfolding map.registers row
+unfolding rules.registers row
 returns c = row-at _ _ refl (c .before .before .before .args .a) (c .before .before .place .result) (c .before .before .place .ensures) (c .before .if1 .taken)
 
 returns-2 : tie.Need-returns-2

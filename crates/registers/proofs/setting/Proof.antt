@@ -2,13 +2,13 @@
 use mathlib.Core.Path.{sym}
 use native.Mathlib.Omega.{arith}
 use borrow.Author.Needs.{needs}
-use Rattle.rules.specs.Registers as map
+use Rattle.rules.specs.Registers as rules
 use Rattle.registers.proofs.Places.{setting-outside}
 use Rattle.registers.proofs.setting.Statement.{statement}
 use Rattle.registers.proofs.setting.Tie as tie
 
 returns : tie.Need-returns
-unfolding map.settingsFrom
+unfolding rules.settingsFrom
 returns c = rw (c .before .before .place .ensures)
 
 returns-2 : tie.Need-returns-2
