@@ -32,21 +32,21 @@ small-fits z h = record { sfits = omega (arith, mag-le z) }
 pub saturated-again : (z : ℤ) → saturated (saturated z) ≡ saturated z
 saturated-again z = saturated-within (saturated z) (saturated-le z)
 
--- a sum between two numbers of one magnitude is less than that
-pub between : (n : ℕ) (z : ℤ) → ltZ (negsuc n) z ≡ true → ltZ z (pos (suc n)) ≡ true → natAbs z ≤ n
-between n (pos k) l h = omega (arith, ltb-true k (suc n) h)
-between n (negsuc k) l h = omega (arith, ltb-true k n l)
+-- the magnitude of a sum between two numbers that differ in sign alone
+pub bounded : (n : ℕ) (z : ℤ) → ltZ (negsuc n) z ≡ true → ltZ z (pos (suc n)) ≡ true → natAbs z ≤ n
+bounded n (pos k) l h = omega (arith, ltb-true k (suc n) h)
+bounded n (negsuc k) l h = omega (arith, ltb-true k n l)
 
--- a sum under the limit, over it, and inside
-pub under : (z : ℤ) → ltZ z (negsuc (sumLimit - 1)) ≡ true → negsuc (sumLimit - 1) ≡ saturated z
+-- a sum below the limits, above them, and inside
+pub below : (z : ℤ) → ltZ z (negsuc (sumLimit - 1)) ≡ true → negsuc (sumLimit - 1) ≡ saturated z
 unfolding saturated
-under (pos n) h = absurd (false≢true h)
-under (negsuc n) h = ap negsuc (omega (arith, ltb-true (sumLimit - 1) n h))
+below (pos n) h = absurd (false≢true h)
+below (negsuc n) h = ap negsuc (omega (arith, ltb-true (sumLimit - 1) n h))
 
-pub over : (z : ℤ) → ltZ (pos sumLimit) z ≡ true → pos sumLimit ≡ saturated z
+pub above : (z : ℤ) → ltZ (pos sumLimit) z ≡ true → pos sumLimit ≡ saturated z
 unfolding saturated
-over (pos n) h = ap pos (omega (arith, ltb-true sumLimit n h))
-over (negsuc n) h = absurd (false≢true h)
+above (pos n) h = ap pos (omega (arith, ltb-true sumLimit n h))
+above (negsuc n) h = absurd (false≢true h)
 
 pub inside : (z : ℤ) → ltZ z (negsuc (sumLimit - 1)) ≡ false → ltZ (pos sumLimit) z ≡ false → z ≡ saturated z
 unfolding saturated

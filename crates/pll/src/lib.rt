@@ -7,7 +7,7 @@ ghost use Rattle.rules.specs.Pll as rules;
 ghost use Rattle.rules.specs.Selection.{unselectedMode, unselectedLoop, modeAfter};
 ghost use Rattle.rules.specs.Selection as selection;
 ghost use Rattle.rules.specs.Tick.{holdingLimit, holdingAfter};
-ghost use Rattle.rules.specs.Registers as map;
+ghost use Rattle.rules.specs.Registers as registers;
 ghost use Rattle.pll.specs.Bridge.{modeOf, loopOf};
 ghost use mathlib.Core.Bool.{not, _&&_, _||_};
 ghost use lib.Dec.{eqb};
@@ -76,7 +76,7 @@ pub fn mode_number(mode: u16) -> u8
 
 // A fresh unit: Free Run, both runs 0.
 pub fn fresh_loop() -> Loop
-    ensures { λ r. ⌜ loopOf r ≡ map.fresh .loop ⌝ }
+    ensures { λ r. ⌜ loopOf r ≡ registers.fresh .loop ⌝ }
 {
     Loop {
         unlock: 0,

@@ -1,5 +1,5 @@
 -- The proofs of the run sheet's bytes and its check.
 pub mod Signed
 pub mod Parts
-pub mod Steps
+pub mod Turns
 pub mod Numbers

@@ -8,7 +8,7 @@ ghost use Prim.Native.Nat.{ℕ};
 ghost use lib.Dec.{leb};
 ghost use lib.IntN.{ℤ, natAbs};
 ghost use lib.ListN.{length};
-ghost use Rattle.rules.specs.Registers as map;
+ghost use Rattle.rules.specs.Registers as registers;
 ghost use Rattle.rules.specs.Registers.{inMap, settingsFrom};
 ghost use Rattle.rules.specs.Sheet.{signedByte};
 ghost use Rattle.rules.specs.Events as events;
@@ -294,7 +294,7 @@ pub struct Unit {
 
 // The rule `fresh`.
 pub fn fresh() -> Unit
-    ensures { λ r. ⌜ modelOf r ≡ map.fresh ⌝ }
+    ensures { λ r. ⌜ modelOf r ≡ registers.fresh ⌝ }
 {
     let m = inputs::fresh_monitors();
     let h = history::fresh_history();

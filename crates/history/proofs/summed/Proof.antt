@@ -10,7 +10,7 @@ use mir.Facts.{toZ-ofZ, sfits-widen}
 use borrow.Author.Needs.{needs}
 use Rattle.rules.specs.History.{sumLimit, saturated}
 use Rattle.rules.proofs.Integers.{natAbs-+, saturated-le, saturated-within}
-use Rattle.history.proofs.Sums.{stored, small-fits, between}
+use Rattle.history.proofs.Sums.{stored, small-fits, bounded}
 use Rattle.history.proofs.summed.Statement.{statement}
 use Rattle.history.proofs.summed.Tie as tie
 
@@ -23,7 +23,7 @@ sample s = ap (λ (y : ℤ). toZ w64 (ofZ w64 y)) (toZ-ofZ (s .fits .x)) ∙ toZ
 far : (c : tie.Then2) → natAbs (c .before .before .args .sum) ≤ 12_999_999_999
 far c =
     let s = c .before .before in
-    between 12_999_999_999 (s .args .sum) (rw (toZ-ofZ (s .fits .sum)) at (c .before .if1 .taken)) (rw (toZ-ofZ (s .fits .sum)) at (c .if2 .taken))
+    bounded 12_999_999_999 (s .args .sum) (rw (toZ-ofZ (s .fits .sum)) at (c .before .if1 .taken)) (rw (toZ-ofZ (s .fits .sum)) at (c .if2 .taken))
 
 -- so the sum with any sample is within them
 near : (c : tie.Then2) → natAbs (c .before .before .args .sum +ℤ c .before .before .args .x) ≤ sumLimit

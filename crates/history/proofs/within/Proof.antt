@@ -1,15 +1,15 @@
--- Each arm is a case of `saturated`: under the limits, over them, inside.
+-- Each arm is a case of `saturated`: below the limits, above them, inside.
 use mathlib.Core.Path.{_∙_}
 use mir.Facts.{toZ-ofZ}
-use Rattle.history.proofs.Sums.{under, over, inside}
+use Rattle.history.proofs.Sums.{below, above, inside}
 use Rattle.history.proofs.within.Statement.{statement}
 use Rattle.history.proofs.within.Tie as tie
 
 returns : tie.Need-returns
-returns c = under (c .before .args .z) (rw (toZ-ofZ (c .before .fits .z)) at (c .if1 .taken))
+returns c = below (c .before .args .z) (rw (toZ-ofZ (c .before .fits .z)) at (c .if1 .taken))
 
 returns-2 : tie.Need-returns-2
-returns-2 c = over (c .before .before .args .z) (rw (toZ-ofZ (c .before .before .fits .z)) at (c .if2 .taken))
+returns-2 c = above (c .before .before .args .z) (rw (toZ-ofZ (c .before .before .fits .z)) at (c .if2 .taken))
 
 returns-3 : tie.Need-returns-3
 returns-3 c =

@@ -18,7 +18,7 @@ use Rattle.tick.specs.Bridge.{stateOf}
 use Rattle.tick.specs.declared.Core.{Core}
 use Rattle.fields.specs.Bridge.{decodedOf}
 use Rattle.sheet.proofs.Parts.{part-all}
-use Rattle.run.proofs.Steps.{Going, going-start, going-put, going-done, events-more, events-stop}
+use Rattle.run.proofs.Turns.{Going, going-start, going-put, going-done, events-more, events-stop}
 use Rattle.run.proofs.run_events.Statement.{statement}
 use Rattle.run.proofs.run_events.Tie as tie
 

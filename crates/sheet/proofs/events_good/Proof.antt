@@ -9,7 +9,7 @@ use Rattle.rules.specs.Sheet as rules
 use Rattle.rules.specs.Sheet.{bad, decode, allEvents}
 use Rattle.fields.specs.Bridge.{decodedOf}
 use Rattle.sheet.proofs.Parts.{part-all}
-use Rattle.sheet.proofs.Steps.{good-more, good-stop}
+use Rattle.sheet.proofs.Turns.{good-more, good-stop}
 use Rattle.sheet.proofs.events_good.Statement.{statement}
 use denote.Ref.{now}
 use Rattle.sheet.proofs.events_good.Tie as tie

@@ -1,4 +1,4 @@
--- The steps of the loops that run a sheet's settings and events.
+-- The turns of the loops that run a sheet's settings and events.
 use Prim.Native.Nat.{ℕ, _+_, _-_, _*_, _≤_, _<_}
 use mathlib.Core.Path.{_≡_, refl, ap, sym, _∙_, subst}
 use mathlib.Core.List.{List, [], _∷_, _++_, append-assoc, append-nil}
@@ -10,7 +10,7 @@ use Rattle.rules.specs.Events.{Event, write}
 use Rattle.rules.specs.State.{State}
 use Rattle.rules.specs.Run.{Outcome, outcome}
 use Rattle.rules.specs.Sheet.{event, bad, decode, settingsOf, before, eventsOf, recordOf, records, over}
-use Rattle.sheet.proofs.Steps.{one-less, next}
+use Rattle.sheet.proofs.Turns.{one-less, next}
 use Rattle.run.proofs.Parts.{came-back}
 
 module _ (n i : ℕ) (l : List ℕ) (h : i < n) where

@@ -1,4 +1,4 @@
--- The steps of a loop over a sheet's items, and of the one over its events.
+-- The turns of a loop over a sheet's items, and of the one over its events.
 use Prim.Native.Nat.{ℕ, suc, _+_, _-_, _*_, _<_}
 use mathlib.Core.Path.{_≡_, refl, ap, _∙_}
 use mathlib.Core.Bool.{false}
