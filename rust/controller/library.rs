@@ -4,6 +4,7 @@
 
 use std::env;
 use std::path::{Path, PathBuf};
+use std::process::exit;
 
 /// Links `lib<name>.a`, which must be there.
 pub fn link(name: &str) {
@@ -12,11 +13,12 @@ pub fn link(name: &str) {
     println!("cargo:rerun-if-env-changed=CONTROLLER_LIB_DIR");
     println!("cargo:rerun-if-changed={}", library.display());
     if !library.exists() {
-        panic!(
-            "{} is missing: build the controller's static libraries first, or name their folder \
-             in CONTROLLER_LIB_DIR",
+        eprintln!(
+            "{} is missing. The repository's command bin/cases makes it: it proves the controller \
+             and builds both libraries. A folder elsewhere is named by CONTROLLER_LIB_DIR.",
             library.display()
         );
+        exit(1);
     }
     println!("cargo:rustc-link-search=native={}", folder.display());
     println!("cargo:rustc-link-lib=static={}", name);
@@ -25,6 +27,10 @@ pub fn link(name: &str) {
 fn folder() -> PathBuf {
     match env::var_os("CONTROLLER_LIB_DIR") {
         Some(folder) => PathBuf::from(folder),
-        None => Path::new(env!("CARGO_MANIFEST_DIR")).join("../../target/staticlib"),
+        None => {
+            let mut above = Path::new(env!("CARGO_MANIFEST_DIR")).ancestors();
+            let repository = above.nth(2).expect("two folders above this crate");
+            repository.join("target/staticlib")
+        }
     }
 }

@@ -13,11 +13,8 @@ use std::path::{Path, PathBuf};
 use std::process::{Command, ExitCode, Stdio};
 use std::time::{Duration, Instant};
 
-const USAGE: &str = "\
-usage: bench [--rack PATH] [--runs N]
-       bench --count RUNNER SHEET REPEATS    runs a sheet so often, to be counted
-  --rack PATH  measures the rack program as well
-  --runs N     the best of N runs counts (200)";
+/// A file, which the command `bin/bench` can show before anything is built.
+const HELP: &str = include_str!("help.txt");
 
 /// The rack program starts anew for each run: fewer of them.
 const RACK_RUNS: u32 = 20;
@@ -41,13 +38,14 @@ struct Options {
 fn main() -> ExitCode {
     let arguments: Vec<_> = std::env::args().skip(1).collect();
     let done = match arguments.split_first() {
+        Some((first, _)) if first == "--help" || first == "-h" => Some(print!("{}", HELP)),
         Some((first, rest)) if first == "--count" => repeat(rest),
         _ => options(arguments.into_iter()).map(|options| measure(&options)),
     };
     if done.is_some() {
         ExitCode::SUCCESS
     } else {
-        eprintln!("{}", USAGE);
+        eprint!("{}", HELP);
         ExitCode::from(2)
     }
 }

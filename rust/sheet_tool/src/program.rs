@@ -2,7 +2,7 @@
 
 use crate::arguments::{request, Command, Request, Work};
 use crate::files::write;
-use crate::help::help;
+use crate::help::HELP;
 use crate::picture::picture;
 use crate::records::run;
 use crate::show::show;
@@ -16,8 +16,8 @@ use std::process::ExitCode;
 /// fault; 2 and a message for arguments that are.
 pub fn main(arguments: impl Iterator<Item = OsString>) -> ExitCode {
     let (message, status) = match request(arguments) {
-        Ok(Request::Help) => (write(help().as_bytes(), None).err(), 1),
-        Ok(Request::Nothing) => (Some(help()), 2),
+        Ok(Request::Help) => (write(HELP.as_bytes(), None).err(), 1),
+        Ok(Request::Nothing) => (Some(HELP.trim_end().to_string()), 2),
         Ok(Request::Work(work)) => (do_work(&work).err(), 1),
         Err(reason) => (Some(format!("sheet: {}; see sheet --help", reason)), 2),
     };

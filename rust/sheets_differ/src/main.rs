@@ -109,7 +109,8 @@ fn rack(options: &Options) -> Result<Option<Program>, String> {
     } else {
         let path = path.display();
         Err(format!(
-            "no rack program {}; see --rack and --no-rack",
+            "no rack program {}: the repository's command bin/rack makes target/bin/rack; see also \
+             --rack and --no-rack",
             path
         ))
     }

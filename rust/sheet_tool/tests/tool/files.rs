@@ -38,6 +38,13 @@ pub fn absent(name: &str) -> String {
     path
 }
 
+/// A path for a test's own folder, which is not there yet.
+pub fn absent_folder(name: &str) -> String {
+    let path = format!("{}/{}", env!("CARGO_TARGET_TMPDIR"), name);
+    let _ = fs::remove_dir_all(&path);
+    path
+}
+
 /// A test's own file with this content.
 pub fn present(name: &str, content: &[u8]) -> String {
     let path = absent(name);

@@ -1,7 +1,7 @@
 //! The program run as a process.
 
 use std::io::Write;
-use std::process::{Command, Stdio};
+use std::process::{Command, Output, Stdio};
 
 /// What the program did.
 #[derive(Debug, PartialEq, Eq)]
@@ -12,6 +12,19 @@ pub struct Outcome {
 }
 
 impl Outcome {
+    /// What a command does with nothing on standard input.
+    pub fn of(command: &mut Command) -> Outcome {
+        Outcome::told(command.stdin(Stdio::null()).output().expect("a command"))
+    }
+
+    fn told(output: Output) -> Outcome {
+        Outcome {
+            status: output.status.code(),
+            output: output.stdout,
+            message: String::from_utf8(output.stderr).expect("a text"),
+        }
+    }
+
     /// The text of a success.
     pub fn text(self) -> String {
         assert_eq!((self.status, self.message.as_str()), (Some(0), ""));
@@ -48,10 +61,5 @@ pub fn sheet_with(arguments: &[&str], input: &[u8]) -> Outcome {
         .spawn()
         .expect("the program");
     let _ = child.stdin.take().expect("a pipe").write_all(input);
-    let output = child.wait_with_output().expect("the program's end");
-    Outcome {
-        status: output.status.code(),
-        output: output.stdout,
-        message: String::from_utf8(output.stderr).expect("a text"),
-    }
+    Outcome::told(child.wait_with_output().expect("the program's end"))
 }
