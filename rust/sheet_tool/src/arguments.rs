@@ -1,8 +1,8 @@
 //! The program's arguments.
 
-use crate::files::Source;
+use crate::output::Output;
+use crate::source::Source;
 use std::ffi::OsString;
-use std::path::PathBuf;
 
 #[derive(Clone, Copy, Debug, PartialEq, Eq)]
 pub enum Command {
@@ -25,8 +25,9 @@ pub enum Request {
 pub struct Work {
     pub command: Command,
     pub source: Source,
-    /// None is standard output.
-    pub output: Option<PathBuf>,
+    pub output: Output,
+    /// Whether the result may take the place of what it is made from.
+    pub force: bool,
     /// Whether the source is a text and not a sheet.
     pub text: bool,
     /// Whether each record has its own line.
@@ -49,15 +50,20 @@ pub fn request(mut arguments: impl Iterator<Item = OsString>) -> Result<Request,
     };
     let mut source = None;
     let mut output = None;
-    let (mut text, mut all) = (command == Command::Make, false);
+    let (mut text, mut all, mut force) = (command == Command::Make, false, false);
     while let Some(argument) = arguments.next() {
         match argument.to_str() {
             Some("--help" | "-h") => return Ok(Request::Help),
             Some("--all") if command == Command::Run => all = true,
             Some("--text") => text = true,
+            Some("--force") => force = true,
             Some("-o") => {
                 let path = arguments.next().ok_or("-o without a file's name")?;
-                once(&mut output, PathBuf::from(path), "-o given twice")?;
+                let file = match path.to_str() {
+                    Some("-") => Output::Standard,
+                    _ => Output::File(path.into()),
+                };
+                once(&mut output, file, "-o given twice")?;
             }
             Some("-") => once(&mut source, Source::Input, TWO_SOURCES)?,
             Some(option) if option.starts_with('-') => {
@@ -71,7 +77,8 @@ pub fn request(mut arguments: impl Iterator<Item = OsString>) -> Result<Request,
         command,
         text: text || source.is_text(),
         source,
-        output,
+        output: output.unwrap_or(Output::Standard),
+        force,
         all,
     }))
 }

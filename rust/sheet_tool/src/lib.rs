@@ -6,9 +6,9 @@
 
 pub mod arguments;
 pub mod event;
-pub mod files;
 pub mod help;
 pub mod make;
+pub mod output;
 pub mod picture;
 pub mod program;
 pub mod records;
@@ -17,6 +17,7 @@ pub mod registers;
 pub mod runs;
 pub mod sheet;
 pub mod show;
+pub mod source;
 pub mod stepped;
 pub mod table;
 pub mod time;

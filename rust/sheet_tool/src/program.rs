@@ -1,8 +1,8 @@
 //! The program: from its arguments to its exit status.
 
 use crate::arguments::{request, Command, Request, Work};
-use crate::files::write;
 use crate::help::HELP;
+use crate::output::Output;
 use crate::picture::picture;
 use crate::records::run;
 use crate::show::show;
@@ -16,7 +16,7 @@ use std::process::ExitCode;
 /// fault; 2 and a message for arguments that are.
 pub fn main(arguments: impl Iterator<Item = OsString>) -> ExitCode {
     let (message, status) = match request(arguments) {
-        Ok(Request::Help) => (write(HELP.as_bytes(), None).err(), 1),
+        Ok(Request::Help) => (Output::Standard.write(HELP.as_bytes()).err(), 1),
         Ok(Request::Nothing) => (Some(HELP.trim_end().to_string()), 2),
         Ok(Request::Work(work)) => (do_work(&work).err(), 1),
         Err(reason) => (Some(format!("sheet: {}; see sheet --help", reason)), 2),
@@ -33,6 +33,12 @@ pub fn main(arguments: impl Iterator<Item = OsString>) -> ExitCode {
 
 /// Reads, makes the whole result and only then writes it.
 fn do_work(work: &Work) -> Result<(), String> {
+    if !work.force && work.output.overwrites(&work.source) {
+        return Err(format!(
+            "{}: the result would replace what it is made from; --force allows it",
+            work.output.name()
+        ));
+    }
     let sheet = match work.text {
         true => work.source.read_text()?,
         false => work.source.read_sheet()?,
@@ -47,5 +53,5 @@ fn do_work(work: &Work) -> Result<(), String> {
             picture(&work.source.title(), &moments).into_bytes()
         }
     };
-    write(&result, work.output.as_deref())
+    work.output.write(&result)
 }

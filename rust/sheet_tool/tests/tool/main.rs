@@ -4,6 +4,7 @@ mod commands;
 mod examples;
 mod faults;
 mod files;
+mod outputs;
 mod pictures;
 mod process;
 mod program;

@@ -1,8 +1,7 @@
 //! The program: its arguments, help, exit statuses, input and output.
 
-use crate::files::{absent, example, present, read};
+use crate::files::{absent, example, present};
 use crate::process::{command, sheet, sheet_with, Outcome};
-use std::fs;
 use std::io::Read;
 use std::process::Stdio;
 
@@ -31,8 +30,10 @@ fn help_says_it_all() {
         "run",
         "picture",
         "-o",
+        "-o -",
         "--all",
         "--text",
+        "--force",
         ".txt",
         "setting",
         "tick",
@@ -127,31 +128,42 @@ fn standard_input_and_output() {
 fn files_by_their_endings_and_by_text() {
     let text = present("program-hit.txt", b"hit");
     let other = present("program-hit.text", b"hit");
-    for arguments in [&["run", &text][..], &["run", "--text", &other]] {
-        assert_eq!(sheet(arguments).text(), RECORDS_OF_A_HIT);
+    for ending in ["txt", "TXT", "Txt"] {
+        let text = present(&format!("program-hit-{0}.{0}", ending), b"hit");
+        assert_eq!(sheet(&["run", &text]).text(), RECORDS_OF_A_HIT);
     }
-    assert_eq!(sheet(&["run", &other]).status, Some(1));
+    assert_eq!(sheet(&["run", "--text", &other]).text(), RECORDS_OF_A_HIT);
     assert_eq!(sheet(&["make", &other]), sheet(&["make", &text]));
 }
 
+/// A text that is given as a sheet is told so; a damaged sheet has its number.
 #[test]
-fn results_in_files() {
-    let text = example("first-lock", "txt");
-    let output = present("program-output", b"longer than what comes, or not");
-    for command in ["make", "show", "run", "picture"] {
-        let written = sheet(&[command, &text, "-o", &output]);
-        assert_eq!(written.text(), "");
-        assert_eq!(read(&output), sheet(&[command, &text]).output);
+fn a_text_is_no_damaged_sheet() {
+    let reason = "a text and not a sheet; --text takes it as a text";
+    let long = "# no sheet, 65,535 bytes and more: Ü\n".repeat(3_000);
+    for (name, text) in [
+        ("a word", "hit"),
+        ("lines", "# a comment\r\n\thit\n"),
+        ("letters", "# Prüfung\n"),
+        ("long", &long),
+        ("long, cut in a letter", &long[1..]),
+    ] {
+        let file = present("program-text.sheet", text.as_bytes());
+        for command in ["show", "run", "picture"] {
+            let of_file = Outcome::failed(1, &format!("{}: {}", file, reason));
+            assert_eq!(sheet(&[command, &file]), of_file, "{}", name);
+            let of_input = Outcome::failed(1, &format!("standard input: {}", reason));
+            assert_eq!(sheet_with(&[command], text.as_bytes()), of_input);
+        }
     }
-}
-
-/// A result may take the place of what it was made from.
-#[test]
-fn a_file_onto_itself() {
-    let file = present("program-itself.txt", b"repeat 2\nhit\nend");
-    assert_eq!(sheet(&["show", &file, "-o", &file]).text(), "");
-    let shown = "# settings (writes on a fresh unit): 0\n\n# events: 2\n2 x hit\n";
-    assert_eq!(read(&file), shown.as_bytes());
+    for damaged in [&b"hit\0"[..], b"\xff\xfe", b"\x01", b""] {
+        let message = sheet_with(&["run"], damaged).message;
+        assert!(
+            message.starts_with("standard input: sheet refused with "),
+            "{}",
+            message
+        );
+    }
 }
 
 #[test]
@@ -169,18 +181,4 @@ fn a_reader_that_stops_is_no_error() {
     let outcome = child.wait_with_output().expect("the program's end");
     assert_eq!((&first, outcome.status.code()), (b"first", Some(0)));
     assert_eq!(outcome.stderr, b"");
-}
-
-#[test]
-fn an_output_that_is_full_is_an_error() {
-    let full = fs::OpenOptions::new().write(true).open("/dev/full");
-    let mut full_output = command(&["help"]);
-    full_output.stdout(full.expect("/dev/full"));
-    let outcome = full_output
-        .stderr(Stdio::piped())
-        .output()
-        .expect("the end");
-    assert_eq!(outcome.status.code(), Some(1));
-    let message = String::from_utf8(outcome.stderr).unwrap();
-    assert!(message.starts_with("standard output: cannot be written: "));
 }

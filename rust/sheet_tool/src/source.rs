@@ -1,11 +1,11 @@
-//! What the program reads and writes. A result is written when it is whole.
+//! What a result is made from: a text or a sheet, in a file or from standard
+//! input.
 
 use crate::make::make;
 use crate::refusals::reason;
 use crate::sheet::{Sheet, LONGEST_SHEET};
-use std::ffi::OsStr;
-use std::fs::{self, File};
-use std::io::{self, Read, Write};
+use std::fs::File;
+use std::io::{self, Read};
 use std::path::{Path, PathBuf};
 
 /// The longest text that is read; the largest sheet needs a tenth of it.
@@ -39,9 +39,21 @@ impl Source {
         }
     }
 
-    /// Whether its name says that it is a text.
+    /// Where the file itself is found.
+    pub fn path(&self) -> &Path {
+        match self {
+            Source::Input => Path::new("/dev/stdin"),
+            Source::File(path) => path,
+        }
+    }
+
+    /// Whether its name says that it is a text, in any case of letters.
     pub fn is_text(&self) -> bool {
-        matches!(self, Source::File(path) if path.extension() == Some(OsStr::new("txt")))
+        let ending = match self {
+            Source::File(path) => path.extension(),
+            Source::Input => None,
+        };
+        ending.map_or(false, |ending| ending.eq_ignore_ascii_case("txt"))
     }
 
     /// The sheet that a text says.
@@ -58,13 +70,12 @@ impl Source {
     pub fn read_sheet(&self) -> Result<Sheet, String> {
         let bytes = self.read(LONGEST_SHEET)?;
         Sheet::from_bytes(&bytes).map_err(|number| {
-            let name = self.name();
-            format!(
-                "{}: sheet refused with {}: {}",
-                name,
-                number,
-                reason(number)
-            )
+            let reason = if looks_like_a_text(&bytes) {
+                "a text and not a sheet; --text takes it as a text".to_string()
+            } else {
+                format!("sheet refused with {}: {}", number, reason(number))
+            };
+            format!("{}: {}", self.name(), reason)
         })
     }
 
@@ -85,20 +96,16 @@ impl Source {
     }
 }
 
-/// Writes a whole result to a file or, without one, to standard output. A
-/// reader that wants no more of it is no error.
-pub fn write(result: &[u8], file: Option<&Path>) -> Result<(), String> {
-    match file {
-        Some(path) => fs::write(path, result)
-            .map_err(|error| format!("{}: cannot be written: {}", path.display(), error)),
-        None => {
-            let mut output = io::stdout().lock();
-            match output.write_all(result).and_then(|()| output.flush()) {
-                Err(error) if error.kind() != io::ErrorKind::BrokenPipe => {
-                    Err(format!("standard output: cannot be written: {}", error))
-                }
-                _ => Ok(()),
-            }
+/// Whether bytes that are no sheet are letters: a sheet has zeros in it. They
+/// may have been cut within a letter.
+fn looks_like_a_text(bytes: &[u8]) -> bool {
+    let letters = match std::str::from_utf8(bytes) {
+        Ok(letters) => letters,
+        Err(error) if error.error_len().is_none() => {
+            std::str::from_utf8(&bytes[..error.valid_up_to()]).unwrap_or_default()
         }
-    }
+        Err(_) => return false,
+    };
+    let printed = |letter: char| !letter.is_control() || letter.is_ascii_whitespace();
+    !letters.is_empty() && letters.chars().all(printed)
 }
