@@ -125,8 +125,9 @@ uint16_t unit_read(const struct unit *u, uint8_t address);
 /* Checks a run sheet of len bytes against an output of output_len bytes: its refusal number, 9 to 13, or 0 if it will run. */
 uint8_t sheet_check(const uint8_t *sheet, size_t len, size_t output_len);
 
-/* Runs a sheet on a fresh unit and writes its records at the front of the output, 4 bytes each: how many bytes that is, 0 if the sheet is refused. The bytes
- * after them are unchanged. Sheet and output do not overlap. */
+/* Runs a sheet on a fresh unit and writes its records at the front of the output, 4 bytes each: how many bytes that is. The bytes after them are unchanged.
+ * Sheet and output do not overlap.
+ * A refused sheet gives 0, and so does a sheet without settings and events, which runs and has no records: sheet_check tells the two apart. */
 size_t sheet_run(const uint8_t *sheet, size_t len, uint8_t *output, size_t output_len);
 
 #ifdef __cplusplus

@@ -29,6 +29,15 @@ static void whole(void)
     expect("the byte after them is unchanged", output[sizeof records] == UNTOUCHED);
 }
 
+/* No settings and no events: it runs, and has no records. Its 0 is told from that of a refusal by the check. */
+static void without_records(void)
+{
+    static const uint8_t empty[4];
+    uint8_t output[4] = {UNTOUCHED, UNTOUCHED, UNTOUCHED, UNTOUCHED};
+    int nothing = sheet_run(empty, sizeof empty, output, sizeof output) == 0 && output[0] == UNTOUCHED;
+    expect("no records: nothing is written, and the check gives 0", nothing && sheet_check(empty, sizeof empty, 0) == 0);
+}
+
 /* A sheet that is turned down writes nothing. */
 static void refused(const char *what, const uint8_t *sheet, size_t len, size_t room, uint8_t number)
 {
@@ -48,6 +57,7 @@ int main(void)
     changed[14] = 4;
 
     whole();
+    without_records();
     refused("65,536 bytes: 9", large, sizeof large, sizeof records, 9);
     refused("a byte short: 10", example, sizeof example - 1, sizeof records, 10);
     refused("no byte: 10", example, 0, sizeof records, 10);

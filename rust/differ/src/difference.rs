@@ -1,5 +1,4 @@
-//! What is told about a difference: where it was found, both answers, and how
-//! to repeat the list.
+//! What is told about a difference: where it was found, and both answers.
 
 use crate::fields::Fields;
 use std::fmt;
@@ -51,10 +50,14 @@ pub struct Name {
     pub long: bool,
 }
 
-impl fmt::Display for Name {
-    fn fmt(&self, f: &mut fmt::Formatter) -> fmt::Result {
-        let long = if self.long { " --long" } else { "" };
-        write!(f, "--list {}{}", self.seed, long)
+impl Name {
+    /// The program's arguments for this list.
+    pub fn arguments(self) -> Vec<String> {
+        let mut arguments = vec!["--list".to_string(), self.seed.to_string()];
+        if self.long {
+            arguments.push("--long".to_string());
+        }
+        arguments
     }
 }
 
@@ -74,7 +77,6 @@ impl fmt::Display for Difference {
             Some((index, fields)) => writeln!(f, "  after event {}: {}", index, fields)?,
             None => writeln!(f, "  before the first event")?,
         }
-        writeln!(f, "  {}", self.mismatch)?;
-        write!(f, "  repeat it with: differ {}", self.name)
+        write!(f, "  {}", self.mismatch)
     }
 }

@@ -1,8 +1,8 @@
 //! Single events, or fields that are none, drawn at random.
 
 use crate::fields::Fields;
-use crate::random::Random;
 use model::{Event, SAMPLE_LIMIT};
+use shared::random::Random;
 
 /// Fields that are no event.
 fn no_event(random: &mut Random) -> Fields {

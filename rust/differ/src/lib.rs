@@ -11,7 +11,6 @@ pub mod fields;
 pub mod list;
 pub mod pair;
 pub mod phases;
-pub mod random;
 pub mod report;
 pub mod run;
 pub mod scenarios;

@@ -7,8 +7,8 @@ use crate::difference::{Difference, Mismatch, Name};
 use crate::draw;
 use crate::fields::Fields;
 use crate::pair::Pair;
-use crate::random::Random;
 use model::{Event, Unit, SAMPLE_LIMIT};
+use shared::random::Random;
 
 /// Nothing, or the difference that ends the list.
 pub type Step = Result<(), Box<Difference>>;

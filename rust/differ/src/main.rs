@@ -3,10 +3,12 @@
 
 use differ::coverage::Coverage;
 use differ::device::Device;
-use differ::difference::Name;
-use differ::report::{grouped, print_counts};
+use differ::difference::{Difference, Name};
+use differ::report::{grouped, print_counts, print_repeat};
 use differ::run::{names, run_list, run_lists, LONG_LISTS};
 use differ::shrink::Shrink;
+use shared::options::{at_fault, unknown, Options};
+use std::ffi::OsString;
 use std::process::ExitCode;
 
 const USAGE: &str = "\
@@ -16,7 +18,7 @@ usage: differ [--self] [--seed N] [--lists M]    M mixed lists and 3 long ones
   --long    the list is one of those with a long Holdover
   --shrink  looks for a short list of events with a difference";
 
-struct Options {
+struct Choices {
     with_itself: bool,
     seed: u64,
     lists: u32,
@@ -26,17 +28,18 @@ struct Options {
 }
 
 fn main() -> ExitCode {
-    let options = match options(std::env::args().skip(1)) {
-        Some(options) => options,
-        None => {
-            eprintln!("{}", USAGE);
-            return ExitCode::from(2);
+    let choices = match choices(Options::of(std::env::args_os().skip(1))) {
+        Ok(Some(choices)) => choices,
+        Ok(None) => {
+            println!("{}", USAGE);
+            return ExitCode::SUCCESS;
         }
+        Err(reason) => return at_fault("differ", &reason),
     };
-    let passed = if options.with_itself {
-        compare(&model::Unit::fresh(), &options)
+    let passed = if choices.with_itself {
+        compare(&model::Unit::fresh(), &choices)
     } else {
-        compare_controller(&options)
+        compare_controller(&choices)
     };
     if passed {
         ExitCode::SUCCESS
@@ -45,8 +48,11 @@ fn main() -> ExitCode {
     }
 }
 
-fn options(mut arguments: impl Iterator<Item = String>) -> Option<Options> {
-    let mut options = Options {
+/// None where the usage is asked for.
+fn choices(
+    mut options: Options<impl Iterator<Item = OsString>>,
+) -> Result<Option<Choices>, String> {
+    let mut choices = Choices {
         with_itself: false,
         seed: 1,
         lists: 2_500,
@@ -54,53 +60,65 @@ fn options(mut arguments: impl Iterator<Item = String>) -> Option<Options> {
         long: false,
         shrink: false,
     };
-    while let Some(argument) = arguments.next() {
-        match argument.as_str() {
-            "--self" => options.with_itself = true,
-            "--long" => options.long = true,
-            "--shrink" => options.shrink = true,
-            "--seed" => options.seed = arguments.next()?.parse().ok()?,
-            "--lists" => options.lists = arguments.next()?.parse().ok()?,
-            "--list" => options.list = Some(arguments.next()?.parse().ok()?),
-            _ => return None,
+    while let Some(argument) = options.next() {
+        match argument.to_str().unwrap_or_default() {
+            "--help" | "-h" => return Ok(None),
+            "--self" => choices.with_itself = true,
+            "--long" => choices.long = true,
+            "--shrink" => choices.shrink = true,
+            option @ "--seed" => choices.seed = options.number(option)?,
+            option @ "--lists" => choices.lists = options.number(option)?,
+            option @ "--list" => choices.list = Some(options.number(option)?),
+            _ => return Err(unknown(&argument)),
         }
     }
-    Some(options)
+    Ok(Some(choices))
 }
 
 #[cfg(feature = "controller")]
-fn compare_controller(options: &Options) -> bool {
-    compare(&controller::Unit::fresh(), options)
+fn compare_controller(choices: &Choices) -> bool {
+    compare(&controller::Unit::fresh(), choices)
 }
 
 #[cfg(not(feature = "controller"))]
-fn compare_controller(_: &Options) -> bool {
+fn compare_controller(_: &Choices) -> bool {
     eprintln!("differ: built without the controller's library; only --self can run");
     false
 }
 
-fn compare<D: Device>(make: &D, options: &Options) -> bool {
-    match options.list {
+fn compare<D: Device>(make: &D, choices: &Choices) -> bool {
+    match choices.list {
         Some(seed) => {
-            let long = options.long;
-            compare_list(make, Name { seed, long }, options.shrink)
+            let long = choices.long;
+            compare_list(make, Name { seed, long }, choices)
         }
-        None => compare_lists(make, options),
+        None => compare_lists(make, choices),
     }
 }
 
 /// One list again.
-fn compare_list<D: Device>(make: &D, name: Name, shrink: bool) -> bool {
+fn compare_list<D: Device>(make: &D, name: Name, choices: &Choices) -> bool {
     let mut coverage = Coverage::empty();
     if let Err(difference) = run_list(make, name, &mut coverage) {
-        println!("{}", difference);
-        if shrink {
+        tell(&difference, choices);
+        if choices.shrink {
             print_short_list(make, name);
         }
         return false;
     }
-    println!("differ {}: {}: no difference", name, totals(&coverage));
+    let list = name.arguments().join(" ");
+    println!("differ {}: {}: no difference", list, totals(&coverage));
     true
+}
+
+/// A difference, and how to see it again.
+fn tell(difference: &Difference, choices: &Choices) {
+    println!("{}", difference);
+    let mut arguments = difference.name.arguments();
+    if choices.with_itself {
+        arguments.push("--self".to_string());
+    }
+    print_repeat(&arguments);
 }
 
 fn print_short_list<D: Device>(make: &D, name: Name) {
@@ -117,17 +135,17 @@ fn print_short_list<D: Device>(make: &D, name: Name) {
 }
 
 /// All lists of the base seed, with the report of what they reached.
-fn compare_lists<D: Device>(make: &D, options: &Options) -> bool {
-    let seed = options.seed;
+fn compare_lists<D: Device>(make: &D, choices: &Choices) -> bool {
+    let seed = choices.seed;
     println!(
         "differ: base seed {}, the model and the {}",
         seed,
         make.name()
     );
     let mut coverage = Coverage::empty();
-    let names = names(seed, options.lists, LONG_LISTS);
+    let names = names(seed, choices.lists, LONG_LISTS);
     if let Err(difference) = run_lists(make, names, &mut coverage) {
-        println!("{}", difference);
+        tell(&difference, choices);
         return false;
     }
     println!("how many events there were of each kind:");

@@ -4,8 +4,8 @@
 use crate::device::Device;
 use crate::draw;
 use crate::list::{List, Step};
-use crate::random::Random;
 use model::{wait_limit, Event};
+use shared::random::Random;
 
 fn bit(input: u8) -> u8 {
     1 << (input - 1)

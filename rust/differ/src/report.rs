@@ -1,6 +1,16 @@
-//! How the counts of a run are told.
+//! How the counts of a run are told, and how a difference is seen again.
 
+use shared::options::command_line;
 use std::fmt::Display;
+use std::path::Path;
+
+/// Prints the command that runs this program again with these arguments, as it
+/// can be typed in any folder.
+pub fn print_repeat(arguments: &[String]) {
+    let program = std::env::current_exe();
+    let program = program.as_deref().unwrap_or_else(|_| Path::new("differ"));
+    println!("  repeat it with: {}", command_line(program, arguments));
+}
 
 /// Prints each item with its count, and again those that were never reached.
 /// Whether all were reached.

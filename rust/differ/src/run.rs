@@ -4,8 +4,8 @@ use crate::coverage::Coverage;
 use crate::device::Device;
 use crate::difference::Name;
 use crate::list::{List, Step};
-use crate::random::Random;
 use crate::scenarios;
+use shared::random::Random;
 
 /// How many lists with a long Holdover a run has.
 pub const LONG_LISTS: u32 = 3;

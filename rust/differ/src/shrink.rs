@@ -9,6 +9,8 @@ use crate::list::List;
 use crate::pair::Pair;
 use crate::run;
 use model::Unit;
+use shared::leave_out::{leave_out, Budget};
+use shared::runs::{runs, Run};
 
 /// The events sent again in all, after which the list is taken as it is.
 const EVENTS_AT_MOST: usize = 60_000_000;
@@ -17,7 +19,7 @@ pub struct Shrink<'a, D> {
     make: &'a D,
     pub events: Vec<Fields>,
     pub mismatch: Mismatch,
-    spent: usize,
+    budget: Budget,
 }
 
 impl<D: Device> Shrink<'_, D> {
@@ -25,33 +27,31 @@ impl<D: Device> Shrink<'_, D> {
     /// named list shows none.
     pub fn of(make: &D, name: Name) -> Option<Shrink<'_, D>> {
         let mut events = record(name);
-        let (length, mismatch) = first_difference(make, &events)?;
-        events.truncate(length);
+        let mismatch = cut_to_difference(make, &mut events)?;
         let mut shrink = Shrink {
             make,
             events,
             mismatch,
-            spent: 0,
+            budget: Budget(EVENTS_AT_MOST),
         };
         shrink.leave_out();
         shrink.make_plainer();
         Some(shrink)
     }
 
-    /// Leaves out stretches of events, first long ones, at last single ones.
     fn leave_out(&mut self) {
-        let mut stretch = self.events.len() / 2;
-        while stretch > 0 {
-            let mut start = 0;
-            while start + stretch <= self.events.len() {
-                let mut fewer = self.events.clone();
-                fewer.drain(start..start + stretch);
-                if !self.accept(fewer) {
-                    start += stretch;
+        let (make, mismatch) = (self.make, &mut self.mismatch);
+        leave_out(
+            &mut self.events,
+            &mut self.budget,
+            |events| match cut_to_difference(make, events) {
+                Some(found) => {
+                    *mismatch = found;
+                    true
                 }
-            }
-            stretch /= 2;
-        }
+                None => false,
+            },
+        );
     }
 
     /// Tries 0 in the fields of each event.
@@ -62,44 +62,22 @@ impl<D: Device> Shrink<'_, D> {
             while index < self.events.len() {
                 let mut plainer = self.events.clone();
                 zero(&mut plainer[index]);
-                if plainer != self.events {
-                    self.accept(plainer);
+                if plainer != self.events && self.budget.spend(plainer.len()) {
+                    if let Some(found) = cut_to_difference(self.make, &mut plainer) {
+                        self.events = plainer;
+                        self.mismatch = found;
+                    }
                 }
                 index += 1;
             }
         }
     }
 
-    /// Takes the events instead of the present ones if they show a difference.
-    fn accept(&mut self, mut events: Vec<Fields>) -> bool {
-        if self.spent > EVENTS_AT_MOST {
-            return false;
-        }
-        self.spent += events.len();
-        match first_difference(self.make, &events) {
-            Some((length, mismatch)) => {
-                events.truncate(length);
-                self.events = events;
-                self.mismatch = mismatch;
-                true
-            }
-            None => false,
-        }
-    }
-
     /// The events, one line for each run of like ones.
     pub fn lines(&self) -> Vec<String> {
-        let mut runs: Vec<(usize, Fields)> = Vec::new();
-        for &fields in &self.events {
-            match runs.last_mut() {
-                Some(run) if run.1 == fields => run.0 += 1,
-                _ => runs.push((1, fields)),
-            }
-        }
-        let lines = runs
-            .iter()
-            .map(|(count, fields)| format!("{:>7} x {}", count, fields));
-        lines.collect()
+        let runs = runs(&self.events, |one, other| one == other).into_iter();
+        let line = |run: Run| format!("{:>7} x {}", run.count(), self.events[run.first]);
+        runs.map(line).collect()
     }
 }
 
@@ -113,16 +91,16 @@ fn record(name: Name) -> Vec<Fields> {
     list.into_record()
 }
 
-/// How many of the events it takes to a difference, and the difference.
-fn first_difference<D: Device>(make: &D, events: &[Fields]) -> Option<(usize, Mismatch)> {
+/// The difference that the events show, if one; what is sent after it is cut
+/// off.
+fn cut_to_difference<D: Device>(make: &D, events: &mut Vec<Fields>) -> Option<Mismatch> {
     let mut pair = Pair::fresh(make);
     for (index, &fields) in events.iter().enumerate() {
         let outcome = pair.event(fields).and_then(|_| pair.read_map());
         if let Err(mismatch) = outcome {
-            return Some((index + 1, mismatch));
+            events.truncate(index + 1);
+            return Some(mismatch);
         }
     }
-    pair.read_all()
-        .err()
-        .map(|mismatch| (events.len(), mismatch))
+    pair.read_all().err()
 }

@@ -14,7 +14,6 @@ pub mod program;
 pub mod records;
 pub mod refusals;
 pub mod registers;
-pub mod runs;
 pub mod sheet;
 pub mod show;
 pub mod source;

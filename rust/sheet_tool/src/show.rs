@@ -3,8 +3,8 @@
 
 use crate::event::{Event, HIT, MEASUREMENT, TICK};
 use crate::registers;
-use crate::runs::runs;
 use crate::sheet::{Setting, Sheet};
+use shared::runs::runs;
 
 pub fn show(sheet: &Sheet) -> String {
     let setting = |&(address, value): &Setting| assignment("setting", address, value);

@@ -2,8 +2,8 @@
 
 use crate::records::{selected_name, Timed};
 use crate::refusals::reason;
-use crate::runs::{runs, Run};
 use crate::time::seconds;
+use shared::runs::{runs, Run};
 
 /// The columns' titles and widths; numbers stand to the right. The last column
 /// is as wide as what stands in it.

@@ -14,8 +14,9 @@ pub fn check(sheet: &[u8], output_len: usize) -> u8 {
     unsafe { sheet_check(sheet.as_ptr(), sheet.len(), output_len) }
 }
 
-/// How many bytes it wrote at the front of the output, 0 when refused; those
-/// after them are unchanged.
+/// How many bytes it wrote at the front of the output; those after them are
+/// unchanged. 0 when refused, and for a run without records: `check` tells the
+/// two apart.
 pub fn run(sheet: &[u8], output: &mut [u8]) -> usize {
     let (bytes, output_len) = (output.as_mut_ptr(), output.len());
     // SAFETY: both pointers are to as many bytes as the lengths say, the

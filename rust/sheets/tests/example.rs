@@ -14,6 +14,17 @@ fn the_example_runs() {
     assert_eq!(output[12..], [0xa5; 4]);
 }
 
+/// Nothing is written either way: the check tells the two apart.
+#[test]
+fn a_run_without_records_is_no_refusal() {
+    let mut output = [0xa5; 4];
+    assert_eq!(sheets::run(&[0; 4], &mut output), 0);
+    assert_eq!(sheets::check(&[0; 4], output.len()), 0);
+    assert_eq!(sheets::run(&[0; 5], &mut output), 0);
+    assert_eq!(sheets::check(&[0; 5], output.len()), 11);
+    assert_eq!(output, [0xa5; 4]);
+}
+
 #[test]
 fn a_refused_sheet_leaves_the_output() {
     for (sheet, length, number) in [(&SHEET[..], 11, 13), (&SHEET[..21], 16, 10), (&[], 0, 10)] {

@@ -5,8 +5,8 @@ use crate::coverage::{Coverage, Room};
 use crate::difference::Mismatch;
 use crate::rack::{Feed, Rack};
 use crate::runner::Runner;
-use differ::random::Random;
 use model::BYTES_PER_RECORD;
+use shared::random::Random;
 
 /// Bytes before and after the lent output, which are not lent.
 const AROUND: usize = 16;

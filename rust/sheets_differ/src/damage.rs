@@ -3,8 +3,8 @@
 
 use crate::sheet::Sheet;
 use differ::draw;
-use differ::random::Random;
 use model::{Event, LONGEST_SHEET};
+use shared::random::Random;
 
 type Work = Box<dyn Fn(&mut Random, &mut Sheet)>;
 type SingleWork = fn(&mut Random, &mut Sheet);

@@ -1,5 +1,5 @@
-//! What is told about a difference: where it was found, both answers, the
-//! sheet, and how to repeat it.
+//! What is told about a difference: where it was found, both answers, and the
+//! sheet.
 
 use crate::rack::Feed;
 use model::BYTES_PER_RECORD;
@@ -99,10 +99,14 @@ pub struct Name {
     pub damaged: bool,
 }
 
-impl fmt::Display for Name {
-    fn fmt(&self, f: &mut fmt::Formatter) -> fmt::Result {
-        let damaged = if self.damaged { " --damaged" } else { "" };
-        write!(f, "--sheet {}{}", self.seed, damaged)
+impl Name {
+    /// The program's arguments for this sheet.
+    pub fn arguments(self) -> Vec<String> {
+        let mut arguments = vec!["--sheet".to_string(), self.seed.to_string()];
+        if self.damaged {
+            arguments.push("--damaged".to_string());
+        }
+        arguments
     }
 }
 
@@ -124,8 +128,7 @@ impl fmt::Display for Difference {
             self.name.seed, damage
         )?;
         writeln!(f, "  {}", self.mismatch)?;
-        writeln!(f, "  {} bytes: {}", self.sheet.len(), hex(&self.sheet))?;
-        write!(f, "  repeat it with: sheets_differ {}", self.name)
+        write!(f, "  {} bytes: {}", self.sheet.len(), hex(&self.sheet))
     }
 }
 

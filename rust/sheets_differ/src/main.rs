@@ -1,8 +1,9 @@
 //! The program: compares the controller's run sheets and the rack program with
 //! the model over random sheets and tells what was reached.
 
-use differ::random::Random;
-use differ::report::{grouped, print_counts};
+use differ::report::{grouped, print_counts, print_repeat};
+use shared::options::{at_fault, unknown, Options};
+use shared::random::Random;
 use sheets_differ::compare::Against;
 use sheets_differ::coverage::Coverage;
 use sheets_differ::damage::{damages, Damage};
@@ -11,6 +12,7 @@ use sheets_differ::rack::{Program, Rack};
 use sheets_differ::run::{compare, names, run_sheet, run_sheets};
 use sheets_differ::runner::{Functions, Runner, MODEL, TUNED_MODEL};
 use sheets_differ::shorten::shorten;
+use std::ffi::OsString;
 use std::path::PathBuf;
 use std::process::ExitCode;
 
@@ -29,8 +31,8 @@ const RACK: &str = concat!(env!("CARGO_MANIFEST_DIR"), "/../../target/bin/rack")
 
 const NO_LIBRARY: &str = "built without the controller's library; only --self and --tuned can run";
 
-struct Options {
-    runner: Option<Functions>,
+struct Choices {
+    runner: Runners,
     seed: u64,
     sheets: u32,
     sheet: Option<u64>,
@@ -40,26 +42,57 @@ struct Options {
     save: Option<PathBuf>,
 }
 
-fn main() -> ExitCode {
-    match options(std::env::args().skip(1)) {
-        Some(options) => match run(&options) {
-            Ok(true) => ExitCode::SUCCESS,
-            Ok(false) => ExitCode::FAILURE,
-            Err(reason) => {
-                eprintln!("sheets_differ: {}", reason);
-                ExitCode::FAILURE
-            }
-        },
-        None => {
-            eprintln!("{}", USAGE);
-            ExitCode::from(2)
+/// What is compared with the model, and the option that says so.
+#[derive(Clone, Copy, PartialEq, Eq)]
+enum Runners {
+    Controller,
+    Itself,
+    Tuned,
+}
+
+impl Runners {
+    fn option(self) -> Option<&'static str> {
+        match self {
+            Runners::Controller => None,
+            Runners::Itself => Some("--self"),
+            Runners::Tuned => Some("--tuned"),
+        }
+    }
+
+    fn functions(self) -> Option<Functions> {
+        match self {
+            Runners::Controller => controller(),
+            Runners::Itself => Some(MODEL),
+            Runners::Tuned => Some(TUNED_MODEL),
         }
     }
 }
 
-fn options(mut arguments: impl Iterator<Item = String>) -> Option<Options> {
-    let mut options = Options {
-        runner: controller(),
+fn main() -> ExitCode {
+    let choices = match choices(Options::of(std::env::args_os().skip(1))) {
+        Ok(Some(choices)) => choices,
+        Ok(None) => {
+            println!("{}", USAGE);
+            return ExitCode::SUCCESS;
+        }
+        Err(reason) => return at_fault("sheets_differ", &reason),
+    };
+    match run(&choices) {
+        Ok(true) => ExitCode::SUCCESS,
+        Ok(false) => ExitCode::FAILURE,
+        Err(reason) => {
+            eprintln!("sheets_differ: {}", reason);
+            ExitCode::FAILURE
+        }
+    }
+}
+
+/// None where the usage is asked for.
+fn choices(
+    mut options: Options<impl Iterator<Item = OsString>>,
+) -> Result<Option<Choices>, String> {
+    let mut choices = Choices {
+        runner: Runners::Controller,
         seed: 1,
         sheets: 2_500,
         sheet: None,
@@ -70,21 +103,24 @@ fn options(mut arguments: impl Iterator<Item = String>) -> Option<Options> {
         no_rack: false,
         save: None,
     };
-    while let Some(argument) = arguments.next() {
-        match argument.as_str() {
-            "--self" => options.runner = Some(MODEL),
-            "--tuned" => options.runner = Some(TUNED_MODEL),
-            "--damaged" => options.damaged = true,
-            "--no-rack" => options.no_rack = true,
-            "--rack" => options.rack = arguments.next()?.into(),
-            "--save" => options.save = Some(arguments.next()?.into()),
-            "--seed" => options.seed = arguments.next()?.parse().ok()?,
-            "--sheets" => options.sheets = arguments.next()?.parse().ok()?,
-            "--sheet" => options.sheet = Some(arguments.next()?.parse().ok()?),
-            _ => return None,
+    while let Some(argument) = options.next() {
+        match argument.to_str().unwrap_or_default() {
+            "--help" | "-h" => return Ok(None),
+            "--self" => choices.runner = Runners::Itself,
+            "--tuned" => choices.runner = Runners::Tuned,
+            "--damaged" => choices.damaged = true,
+            "--no-rack" => choices.no_rack = true,
+            option @ "--rack" => choices.rack = options.value(option, "a program's name")?.into(),
+            option @ "--save" => {
+                choices.save = Some(options.value(option, "a folder's name")?.into())
+            }
+            option @ "--seed" => choices.seed = options.number(option)?,
+            option @ "--sheets" => choices.sheets = options.number(option)?,
+            option @ "--sheet" => choices.sheet = Some(options.number(option)?),
+            _ => return Err(unknown(&argument)),
         }
     }
-    Some(options)
+    Ok(Some(choices))
 }
 
 #[cfg(feature = "sheets")]
@@ -98,12 +134,12 @@ fn controller() -> Option<Functions> {
 }
 
 /// The rack program, none if it is to be left out.
-fn rack(options: &Options) -> Result<Option<Program>, String> {
-    if options.no_rack {
+fn rack(choices: &Choices) -> Result<Option<Program>, String> {
+    if choices.no_rack {
         println!("sheets_differ: the rack program is LEFT OUT (--no-rack)");
         return Ok(None);
     }
-    let path = options.rack.clone();
+    let path = choices.rack.clone();
     if path.is_file() {
         Ok(Some(Program { path }))
     } else {
@@ -117,48 +153,63 @@ fn rack(options: &Options) -> Result<Option<Program>, String> {
 }
 
 /// Whether all went well; or why nothing could be compared.
-fn run(options: &Options) -> Result<bool, String> {
-    let runner = options.runner.as_ref().ok_or(NO_LIBRARY)?;
-    let program = rack(options)?;
+fn run(choices: &Choices) -> Result<bool, String> {
+    let runner = &choices.runner.functions().ok_or(NO_LIBRARY)?;
+    let program = rack(choices)?;
     let rack = program.as_ref().map(|program| program as &dyn Rack);
-    Ok(compare_sheets(&Against { runner, rack }, options))
+    Ok(compare_sheets(&Against { runner, rack }, choices))
 }
 
-fn compare_sheets<R: Runner>(against: &Against<R>, options: &Options) -> bool {
+fn compare_sheets<R: Runner>(against: &Against<R>, choices: &Choices) -> bool {
     let damages = damages();
     let mut coverage = Coverage::empty(&damages);
-    let outcome = match options.sheet {
+    let outcome = match choices.sheet {
         Some(seed) => {
-            let damaged = options.damaged;
+            let damaged = choices.damaged;
             let name = Name { seed, damaged };
             run_sheet(against, name, &damages, true, &mut coverage)
         }
         None => {
             println!(
                 "sheets_differ: base seed {}, the model and the {}",
-                options.seed,
+                choices.seed,
                 against.runner.name()
             );
-            let names = names(options.seed, options.sheets);
+            let names = names(choices.seed, choices.sheets);
             run_sheets(against, names, &damages, &mut coverage)
         }
     };
     if let Err(difference) = outcome {
         println!("{}", difference);
-        save(&difference.sheet, "sheet", options, &difference);
-        print_short_sheet(against, &damages, options, &difference);
+        print_repeat(&repeat(difference.name, choices));
+        save(&difference.sheet, "sheet", choices, &difference);
+        print_short_sheet(against, &damages, choices, &difference);
         return false;
     }
-    if options.sheet.is_some() {
+    if choices.sheet.is_some() {
         println!("sheets_differ: {}: no difference", totals(&coverage));
         return true;
     }
-    report(&coverage, options)
+    report(&coverage, choices)
+}
+
+/// The arguments that compare a sheet again, in whatever folder they are given.
+fn repeat(name: Name, choices: &Choices) -> Vec<String> {
+    let mut arguments = name.arguments();
+    arguments.extend(choices.runner.option().map(String::from));
+    if choices.no_rack {
+        arguments.push("--no-rack".to_string());
+    } else {
+        let here = std::env::current_dir().unwrap_or_default();
+        let rack = here.join(&choices.rack).display().to_string();
+        arguments.extend(["--rack".to_string(), rack]);
+    }
+    arguments
 }
 
 /// Writes a sheet of the difference to a file, whole.
-fn save(sheet: &[u8], what: &str, options: &Options, difference: &Difference) {
-    let path = options.save.clone().unwrap_or_else(std::env::temp_dir);
+fn save(sheet: &[u8], what: &str, choices: &Choices, difference: &Difference) {
+    let path = choices.save.clone().unwrap_or_else(std::env::temp_dir);
     let path = path.join(format!("{}-{}", what, difference.name.seed));
     match std::fs::write(&path, sheet) {
         Ok(()) => println!("  written to {}", path.display()),
@@ -170,7 +221,7 @@ fn save(sheet: &[u8], what: &str, options: &Options, difference: &Difference) {
 fn print_short_sheet<R: Runner>(
     against: &Against<R>,
     damages: &[Damage],
-    options: &Options,
+    choices: &Choices,
     difference: &Difference,
 ) {
     let mismatch = |sheet: &[u8]| {
@@ -186,19 +237,19 @@ fn print_short_sheet<R: Runner>(
         println!("a sheet of {} bytes with a difference:", short.len());
         println!("  {}", hex(&short));
         println!("  {}", mismatch);
-        save(&short, "short-sheet", options, difference);
+        save(&short, "short-sheet", choices, difference);
     }
 }
 
 /// What the sheets have reached.
-fn report(coverage: &Coverage, options: &Options) -> bool {
+fn report(coverage: &Coverage, choices: &Choices) -> bool {
     println!("how many there were of each kind:");
-    let all_reached = print_counts(coverage.counts(!options.no_rack));
+    let all_reached = print_counts(coverage.counts(!choices.no_rack));
     let every = if all_reached { "every" } else { "NOT every" };
     println!(
         "sheets_differ: {}, seed {}: no difference, {} kind reached",
         totals(coverage),
-        options.seed,
+        choices.seed,
         every
     );
     all_reached

@@ -6,8 +6,8 @@ use crate::damage::Damage;
 use crate::difference::{Difference, Mismatch, Name};
 use crate::runner::Runner;
 use crate::sheet;
-use differ::random::Random;
 use model::LONGEST_SHEET;
+use shared::random::Random;
 
 /// The rack program gets one sheet in so many, and more of those that are
 /// about as long as a sheet may be, or longer.

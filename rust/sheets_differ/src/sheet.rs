@@ -5,9 +5,9 @@ use differ::difference::Name;
 use differ::draw;
 use differ::list::{List, Step};
 use differ::phases::{become_ready, other_habits};
-use differ::random::Random;
 use differ::scenarios::mix_phases;
 use model::{sheet_of, Event, Unit, BYTES_PER_EVENT, BYTES_PER_SETTING, LONGEST_SHEET};
+use shared::random::Random;
 
 /// The two counts of a sheet.
 const COUNTS: usize = 4;

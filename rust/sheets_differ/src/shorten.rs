@@ -2,9 +2,11 @@
 //! as the difference stays.
 
 use model::{BYTES_PER_EVENT, BYTES_PER_SETTING};
+use shared::leave_out::{leave_out, Budget};
 
-/// The sheets tried at most.
-const TRIES: u32 = 3_000;
+/// The settings and events tried in all, after which the sheet is taken as it
+/// is.
+const PARTS_AT_MOST: usize = 10_000_000;
 
 /// A short sheet that differs as the given one does. A sheet whose counts do
 /// not agree with its length is taken as it is.
@@ -13,11 +15,11 @@ pub fn shorten(sheet: &[u8], differs: impl Fn(&[u8]) -> bool) -> Vec<u8> {
         Some(parts) => parts,
         None => return sheet.to_vec(),
     };
-    let mut tries = TRIES;
-    leave_out(&mut events, &mut tries, |fewer| {
+    let mut budget = Budget(PARTS_AT_MOST);
+    leave_out(&mut events, &mut budget, |fewer| {
         differs(&joined(&settings, fewer))
     });
-    leave_out(&mut settings, &mut tries, |fewer| {
+    leave_out(&mut settings, &mut budget, |fewer| {
         differs(&joined(fewer, &events))
     });
     joined(&settings, &events)
@@ -50,23 +52,4 @@ fn joined(settings: &[Vec<u8>], events: &[Vec<u8>]) -> Vec<u8> {
         events.concat(),
     ];
     sections.concat()
-}
-
-/// Leaves out stretches, first long ones, at last single parts.
-fn leave_out(list: &mut Parts, tries: &mut u32, differs: impl Fn(&[Vec<u8>]) -> bool) {
-    let mut stretch = list.len();
-    while stretch > 0 {
-        let mut start = 0;
-        while start + stretch <= list.len() && *tries > 0 {
-            *tries -= 1;
-            let mut fewer = list.clone();
-            fewer.drain(start..start + stretch);
-            if differs(&fewer) {
-                *list = fewer;
-            } else {
-                start += stretch;
-            }
-        }
-        stretch /= 2;
-    }
 }
