@@ -1,18 +1,21 @@
 //! The repository's files that the tests read, and files of their own.
 
 use std::fs;
+use std::io;
 
-/// The examples, in the folder `examples`, by their names without endings.
-pub const EXAMPLES: [&str; 8] = [
-    "all-clocks-lost",
-    "document-01",
-    "first-lock",
-    "history-commands",
-    "lock-alarm",
-    "manual-fallback",
-    "non-revertive",
-    "reversion-with-delay",
-];
+/// The examples, all texts in the folder `examples`, by their names without
+/// endings.
+pub fn examples() -> Vec<String> {
+    let entries = fs::read_dir(repository("examples")).expect("the examples");
+    let name = |entry: io::Result<fs::DirEntry>| {
+        let name = entry.expect("an entry").file_name();
+        let name = name.into_string().expect("a name in UTF-8");
+        name.strip_suffix(".txt").map(String::from)
+    };
+    let mut names: Vec<String> = entries.filter_map(name).collect();
+    names.sort();
+    names
+}
 
 /// A path in the repository.
 pub fn repository(path: &str) -> String {

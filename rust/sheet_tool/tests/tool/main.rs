@@ -12,5 +12,6 @@ mod random;
 mod refused;
 mod round_trip;
 mod same_records;
+mod stories;
 mod tables;
 mod xml;

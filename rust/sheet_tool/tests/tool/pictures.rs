@@ -1,7 +1,7 @@
 //! The pictures: those in `docs/pictures` are what the tool makes, and every
 //! picture is well-formed and has its rows.
 
-use crate::files::{example, read_text, repository, EXAMPLES};
+use crate::files::{example, examples, read_text, repository};
 use crate::process::sheet;
 use crate::random::Random;
 use crate::xml::texts;
@@ -47,9 +47,9 @@ fn the_pictures_of_the_repository_are_the_tools() {
 
 #[test]
 fn examples_have_all_rows_and_their_story() {
-    for name in EXAMPLES {
-        let svg = sheet(&["picture", &example(name, "txt")]).text();
-        assert!(check(&svg).contains(&name));
+    for name in examples() {
+        let svg = sheet(&["picture", &example(&name, "txt")]).text();
+        assert!(check(&svg).contains(&name.as_str()));
     }
     let svg = sheet(&["picture", &example("lock-alarm", "txt")]).text();
     let texts = check(&svg);
