@@ -1,6 +1,7 @@
 //! The two sheets that are measured: a settled unit, and a mixed list.
 
 use model::{sheet_of, Event, SAMPLE_LIMIT};
+use shared::random::Random;
 
 /// How many events each of the sheets has.
 pub const EVENTS: usize = 8_000;
@@ -23,7 +24,7 @@ fn settled() -> Vec<u8> {
 /// Ticks with changing irregular masks and lock flags, measurements, writes
 /// and Hits; some of them are refused.
 fn mixed() -> Vec<u8> {
-    let mut random = Random(1);
+    let mut random = Random::new(1);
     let events: Vec<_> = (0..EVENTS).map(|_| any_event(&mut random)).collect();
     sheet_of(&[(0x40, 1), (0x1c, 0x08), (0x1d, 0x09)], &events)
 }
@@ -59,25 +60,5 @@ fn any_event(random: &mut Random) -> Event {
             lock: random.below(32) > 0,
             sample,
         },
-    }
-}
-
-/// A small random generator, always from the same seed (xorshift).
-struct Random(u32);
-
-impl Random {
-    fn below(&mut self, end: u32) -> u32 {
-        self.0 ^= self.0 << 13;
-        self.0 ^= self.0 >> 17;
-        self.0 ^= self.0 << 5;
-        self.0 % end
-    }
-
-    fn byte(&mut self) -> u8 {
-        self.below(256) as u8
-    }
-
-    fn pick(&mut self, choices: &[u8]) -> u8 {
-        choices[self.below(choices.len() as u32) as usize]
     }
 }

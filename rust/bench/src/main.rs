@@ -8,6 +8,8 @@ mod count;
 mod lists;
 
 use lists::{EVENTS, SHEETS};
+use shared::options::{at_fault, unknown, Options};
+use std::ffi::OsString;
 use std::fs::File;
 use std::path::{Path, PathBuf};
 use std::process::{Command, ExitCode, Stdio};
@@ -30,42 +32,63 @@ const RUNNERS: &[(&str, Run)] = &[PLAIN, TUNED, ("real controller", sheets::run)
 #[cfg(not(feature = "sheets"))]
 const RUNNERS: &[(&str, Run)] = &[PLAIN, TUNED];
 
-struct Options {
+struct Choices {
     rack: Option<PathBuf>,
     runs: u32,
 }
 
 fn main() -> ExitCode {
-    let arguments: Vec<_> = std::env::args().skip(1).collect();
-    let done = match arguments.split_first() {
-        Some((first, _)) if first == "--help" || first == "-h" => Some(print!("{}", HELP)),
-        Some((first, rest)) if first == "--count" => repeat(rest),
-        _ => options(arguments.into_iter()).map(|options| measure(&options)),
+    let mut arguments = std::env::args_os().skip(1).peekable();
+    let outcome = match arguments.peek().and_then(|first| first.to_str()) {
+        Some("--help" | "-h") => Ok(print!("{}", HELP)),
+        Some("--count") => repeat(arguments.skip(1)),
+        _ => choices(Options::of(arguments)).map(|choices| measure(&choices)),
     };
-    if done.is_some() {
-        ExitCode::SUCCESS
-    } else {
-        eprint!("{}", HELP);
-        ExitCode::from(2)
+    match outcome {
+        Ok(()) => ExitCode::SUCCESS,
+        Err(reason) => at_fault("bench", &reason),
     }
 }
 
-/// What the counted process does: a runner and a sheet, by their names.
-fn repeat(arguments: &[String]) -> Option<()> {
-    let (runner, sheet, repeats) = match arguments {
-        [runner, sheet, repeats] => (runner, sheet, repeats.parse().ok()?),
-        _ => return None,
+fn choices(mut options: Options<impl Iterator<Item = OsString>>) -> Result<Choices, String> {
+    let mut choices = Choices {
+        rack: None,
+        runs: 200,
     };
-    let run = RUNNERS.iter().find(|(name, _)| name == runner)?.1;
-    let sheet = SHEETS.iter().find(|(name, _)| name == sheet)?.1();
-    count::repeat(run, &sheet, repeats);
-    Some(())
+    while let Some(argument) = options.next() {
+        match argument.to_str().unwrap_or_default() {
+            option @ "--rack" => {
+                choices.rack = Some(options.value(option, "a program's name")?.into())
+            }
+            option @ "--runs" => choices.runs = options.number(option)?,
+            _ => return Err(unknown(&argument)),
+        }
+    }
+    Ok(choices)
 }
 
-fn measure(options: &Options) {
+/// What the counted process does: a runner and a sheet, by their names, so often.
+fn repeat(arguments: impl Iterator<Item = OsString>) -> Result<(), String> {
+    let words: Vec<_> = arguments
+        .filter_map(|word| word.into_string().ok())
+        .collect();
+    let (runner, sheet, repeats) = match &words[..] {
+        [runner, sheet, repeats] => (runner, sheet, repeats.parse()),
+        _ => return Err("--count takes a runner, a sheet and a number".to_string()),
+    };
+    let run = RUNNERS.iter().find(|(name, _)| name == runner);
+    let sheet = SHEETS.iter().find(|(name, _)| name == sheet);
+    match (run, sheet, repeats) {
+        (Some((_, run)), Some((_, sheet)), Ok(repeats)) => count::repeat(*run, &sheet(), repeats),
+        _ => return Err("--count names no runner, no sheet or no number".to_string()),
+    }
+    Ok(())
+}
+
+fn measure(choices: &Choices) {
     println!(
         "bench: sheets of {} events, the best of {} runs each",
-        EVENTS, options.runs
+        EVENTS, choices.runs
     );
     let counting = count::possible();
     if !counting {
@@ -74,30 +97,15 @@ fn measure(options: &Options) {
     for (name, sheet) in SHEETS {
         let sheet = sheet();
         describe(name, &sheet);
-        let times = times(&sheet, options.runs);
+        let times = times(&sheet, choices.runs);
         let counts = RUNNERS
             .iter()
             .map(|(runner, _)| count::instructions(runner, name));
         print_table(&times, counting.then(|| counts.collect()));
-        if let Some(rack) = &options.rack {
+        if let Some(rack) = &choices.rack {
             measure_rack(&sheet, rack);
         }
     }
-}
-
-fn options(mut arguments: impl Iterator<Item = String>) -> Option<Options> {
-    let mut options = Options {
-        rack: None,
-        runs: 200,
-    };
-    while let Some(argument) = arguments.next() {
-        match argument.as_str() {
-            "--rack" => options.rack = Some(arguments.next()?.into()),
-            "--runs" => options.runs = arguments.next()?.parse().ok()?,
-            _ => return None,
-        }
-    }
-    Some(options)
 }
 
 /// What the sheet holds, so that the numbers can be judged.

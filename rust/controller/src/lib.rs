@@ -5,6 +5,10 @@
 //! sheet. The fields of `Unit` are for the eye: they may change from one version
 //! to the next. `c/controller.h` says what each holds.
 
+mod words;
+
+pub use words::{reason, HIT, MEASUREMENT, STATES, TICK, WRITE};
+
 use std::mem::{align_of, size_of};
 
 /// What the monitors keep of each input; an alarm is 0 or 1.

@@ -159,20 +159,12 @@ impl Coverage {
 
 /// The items, each with its condition.
 fn conditions() -> Vec<(String, Condition)> {
-    let states = [
-        ("Free Run", State::FreeRun),
-        ("Holdover", State::Holdover),
-        ("Pre-locked", State::PreLocked),
-        ("Locked", State::Locked),
-        ("Loss of lock", State::LossOfLock),
-        ("Pre-locked 2", State::PreLocked2),
-    ];
     let writable = (0x1c..=0x26).chain(0x40..=0x45);
     let mut list = Vec::new();
     list.extend(family(
-        states,
-        |(name, _)| format!("events that end in {}", name),
-        |m, (_, state)| m.after.pll.state == state,
+        State::ALL,
+        |state| format!("events that end in {}", state.name()),
+        |m, state| m.after.pll.state == state,
     ));
     list.extend(family(
         0..=9,

@@ -9,6 +9,7 @@ pub mod fast;
 mod history;
 mod monitors;
 mod pll;
+mod reading;
 mod refusal;
 mod registers;
 mod selection;
@@ -19,11 +20,12 @@ pub use event::Event;
 pub use history::{History, BLOCKS_FOR_READY, BLOCKS_KEPT, SAMPLES_PER_BLOCK};
 pub use monitors::{Input, LOCK_ALARM_TICKS, SOAK_TICKS};
 pub use pll::{Pll, State, LOCK_TICKS, UNLOCK_TICKS};
+pub use reading::TICKS_PER_HOUR;
 pub use refusal::Refusal;
 pub use registers::{Register, Settings};
 pub use selection::{wait_limit, Wait, FREE_RUN, NONE};
 pub use sheet::{
-    check, printed, records, run, sheet_of, Record, BYTES_PER_EVENT, BYTES_PER_RECORD,
-    BYTES_PER_SETTING, LONGEST_SHEET, MOST_SETTINGS,
+    check, printed, records, run, sheet_of, Record, BYTES_PER_COUNT, BYTES_PER_EVENT,
+    BYTES_PER_RECORD, BYTES_PER_SETTING, LONGEST_SHEET, MOST_SETTINGS,
 };
-pub use unit::{Unit, SAMPLE_LIMIT, TICKS_PER_HOUR};
+pub use unit::{Unit, SAMPLE_LIMIT};

@@ -17,6 +17,27 @@ pub enum State {
 }
 
 impl State {
+    pub const ALL: [State; 6] = [
+        State::FreeRun,
+        State::Holdover,
+        State::PreLocked,
+        State::Locked,
+        State::LossOfLock,
+        State::PreLocked2,
+    ];
+
+    /// As document 01 calls it.
+    pub fn name(self) -> &'static str {
+        match self {
+            State::FreeRun => "Free Run",
+            State::Holdover => "Holdover",
+            State::PreLocked => "Pre-locked",
+            State::Locked => "Locked",
+            State::LossOfLock => "Loss of lock",
+            State::PreLocked2 => "Pre-locked 2",
+        }
+    }
+
     /// "Holdover if Ready, otherwise Free Run"
     pub(crate) fn without_reference(ready: bool) -> State {
         if ready {

@@ -1,9 +1,9 @@
 //! The choice of the reference and the state that follows from it: tick
 //! step 4. "Selected is 0 (none), 1 to 8, or 9 (Free Run as a candidate)."
 
+use crate::monitors::Input;
 use crate::pll::State;
 use crate::registers::Settings;
-use crate::unit::Unit;
 
 /// Selected when nothing is.
 pub const NONE: u8 = 0;
@@ -58,42 +58,59 @@ pub fn wait_limit(delay: u8) -> u32 {
     (1_875 * u32::from(delay) + 3) / 4
 }
 
-impl Unit {
-    /// Step 4.
-    pub(crate) fn select(&mut self) {
-        let choice = if self.settings.automatic() {
-            self.automatic_choice()
+/// Whom a tick can choose from: the inputs as they are judged, under the
+/// settings.
+#[derive(Clone, Copy)]
+pub(crate) struct Candidates<'a> {
+    settings: &'a Settings,
+    inputs: &'a [Input; 8],
+}
+
+impl<'a> Candidates<'a> {
+    pub fn of(settings: &'a Settings, inputs: &'a [Input; 8]) -> Candidates<'a> {
+        Candidates { settings, inputs }
+    }
+
+    /// The choice of a tick, with what is selected so far and its wait.
+    pub fn choose(self, selected: u8, wait: &mut Wait) -> u8 {
+        if self.settings.automatic() {
+            self.automatic(selected, wait)
         } else {
-            self.manual_choice()
-        };
-        let changed = choice != self.selected;
-        if changed {
-            self.change_selection(choice);
+            // "Any manual tick zeroes the wait."
+            *wait = Wait::ZERO;
+            self.manual()
         }
-        self.pll.state = self.state_after_selection(changed);
     }
 
     /// "If the selected one is no candidate, the best is taken, or 0."
-    fn automatic_choice(&mut self) -> u8 {
-        let best = self.best();
-        if self.is_candidate(self.selected) {
-            self.wait.choose(self.selected, best, &self.settings)
+    fn automatic(self, selected: u8, wait: &mut Wait) -> u8 {
+        if self.includes(selected) {
+            wait.choose(selected, self.best(), self.settings)
         } else {
-            best
+            self.best()
+        }
+    }
+
+    /// "Op_Mode s in 1 to 8 selects s if qualified, masked or not, else 0; 0
+    /// and 9 select 0."
+    fn manual(self) -> u8 {
+        match self.settings.op_mode {
+            s @ 1..=8 if self.qualified(s) => s,
+            _ => NONE,
         }
     }
 
     /// "candidates are the available references by priority (0 best), then
     /// number; Free Run, if enabled, stands after all references of equal
     /// priority." As number 9 it does. 0 if there is no candidate.
-    pub fn best(&self) -> u8 {
+    pub fn best(self) -> u8 {
         (1..=FREE_RUN)
-            .filter(|&candidate| self.is_candidate(candidate))
+            .filter(|&candidate| self.includes(candidate))
             .min_by_key(|&candidate| (self.settings.priority(candidate), candidate))
             .unwrap_or(NONE)
     }
 
-    fn is_candidate(&self, selected: u8) -> bool {
+    fn includes(self, selected: u8) -> bool {
         match selected {
             1..=8 => self.available(selected),
             FREE_RUN => self.settings.free_run_enabled(),
@@ -101,53 +118,36 @@ impl Unit {
         }
     }
 
-    /// "Op_Mode s in 1 to 8 selects s if qualified, masked or not, else 0; 0
-    /// and 9 select 0. Any manual tick zeroes the wait."
-    fn manual_choice(&mut self) -> u8 {
-        self.wait = Wait::ZERO;
-        match self.settings.op_mode {
-            s @ 1..=8 if self.input(s).qualified() => s,
-            _ => NONE,
-        }
+    /// "available means qualified and unmasked"
+    pub fn available(self, input: u8) -> bool {
+        self.qualified(input) && self.settings.unmasked(input)
     }
 
-    /// "Any change of selection zeroes the wait." "Both runs restart at 0 when
-    /// the selection changes." A reference selected may empty the history.
-    fn change_selection(&mut self, choice: u8) {
-        self.drop_selection();
-        self.selected = choice;
-        if (1..=8).contains(&choice) {
-            self.history
-                .reference_selected(choice, self.settings.policy);
-        }
+    fn qualified(self, input: u8) -> bool {
+        self.inputs[usize::from(input) - 1].qualified()
     }
+}
 
-    /// Selected 0, wait and runs 0.
-    pub(crate) fn drop_selection(&mut self) {
-        self.selected = NONE;
-        self.wait = Wait::ZERO;
-        self.pll.restart_runs();
-    }
-
-    /// "Op_Mode 0 in manual, or selected 9, is Free Run. Else selected 0 is
-    /// Holdover if Ready, otherwise Free Run. A newly selected reference
-    /// starts Pre-locked if the state was Free Run, else Pre-locked 2."
-    fn state_after_selection(&self, changed: bool) -> State {
-        let manual_free_run = !self.settings.automatic() && self.settings.op_mode == 0;
-        if manual_free_run || self.selected == FREE_RUN {
-            State::FreeRun
-        } else if self.selected == NONE {
-            self.state_without_reference()
-        } else if !changed {
-            self.pll.state
-        } else if self.pll.state == State::FreeRun {
-            State::PreLocked
-        } else {
-            State::PreLocked2
-        }
-    }
-
-    pub(crate) fn state_without_reference(&self) -> State {
-        State::without_reference(self.history.ready())
+/// "Op_Mode 0 in manual, or selected 9, is Free Run. Else selected 0 is
+/// Holdover if Ready, otherwise Free Run. A newly selected reference starts
+/// Pre-locked if the state was Free Run, else Pre-locked 2."
+pub(crate) fn state_after_selection(
+    settings: &Settings,
+    selected: u8,
+    changed: bool,
+    ready: bool,
+    before: State,
+) -> State {
+    let manual_free_run = !settings.automatic() && settings.op_mode == 0;
+    if manual_free_run || selected == FREE_RUN {
+        State::FreeRun
+    } else if selected == NONE {
+        State::without_reference(ready)
+    } else if !changed {
+        before
+    } else if before == State::FreeRun {
+        State::PreLocked
+    } else {
+        State::PreLocked2
     }
 }

@@ -17,7 +17,8 @@ pub const BYTES_PER_EVENT: usize = 8;
 /// "Each gives a 4-byte record"
 pub const BYTES_PER_RECORD: usize = 4;
 
-const BYTES_PER_COUNT: usize = 2;
+/// "16-bit count"
+pub const BYTES_PER_COUNT: usize = 2;
 
 /// "a 4-byte record: refusal or 0, then 0x48, 0x46, 0x49"
 pub type Record = [u8; BYTES_PER_RECORD];

@@ -1,4 +1,4 @@
-//! The whole unit: its state, its events, its registers.
+//! The whole unit: its state, and what each of its events does to it.
 
 use crate::event::Event;
 use crate::history::History;
@@ -6,12 +6,10 @@ use crate::monitors::Input;
 use crate::pll::{Pll, State, UNLOCK_TICKS};
 use crate::refusal::Refusal;
 use crate::registers::{Register, Settings};
-use crate::selection::Wait;
+use crate::selection::{state_after_selection, Candidates, Wait, NONE};
 
 /// Samples run from −125,000,000 to 125,000,000.
 pub const SAMPLE_LIMIT: i32 = 125_000_000;
-/// "whole hours (28,125 ticks)"
-pub const TICKS_PER_HOUR: u64 = 28_125;
 
 #[derive(Clone, Debug, PartialEq, Eq)]
 pub struct Unit {
@@ -32,7 +30,7 @@ impl Unit {
         Unit {
             inputs: [Input::fresh(); 8],
             pll: Pll::fresh(),
-            selected: 0,
+            selected: NONE,
             wait: Wait::ZERO,
             history: History::fresh(),
             holdover_ticks: 0,
@@ -99,6 +97,36 @@ impl Unit {
         }
     }
 
+    /// Step 4.
+    fn select(&mut self) {
+        let candidates = Candidates::of(&self.settings, &self.inputs);
+        let choice = candidates.choose(self.selected, &mut self.wait);
+        let changed = choice != self.selected;
+        if changed {
+            self.change_selection(choice);
+        }
+        let (settings, ready, before) = (&self.settings, self.ready(), self.pll.state);
+        self.pll.state = state_after_selection(settings, self.selected, changed, ready, before);
+    }
+
+    /// "Any change of selection zeroes the wait." "Both runs restart at 0 when
+    /// the selection changes." A reference selected may empty the history.
+    fn change_selection(&mut self, choice: u8) {
+        self.drop_selection();
+        self.selected = choice;
+        if self.reference_selected() {
+            self.history
+                .reference_selected(choice, self.settings.policy);
+        }
+    }
+
+    /// Selected 0, wait and runs 0.
+    fn drop_selection(&mut self) {
+        self.selected = NONE;
+        self.wait = Wait::ZERO;
+        self.pll.restart_runs();
+    }
+
     /// "whole hours (28,125 ticks) in Holdover after the entering event": the
     /// tick that enters Holdover is not counted, each later one is.
     fn count_holdover(&mut self, state_before: State) {
@@ -128,7 +156,7 @@ impl Unit {
         self.input_mut(self.selected).soak = 0;
         self.drop_selection();
         self.history.empty_open_block();
-        self.pll.state = self.state_without_reference();
+        self.pll.state = State::without_reference(self.ready());
         self.holdover_ticks = 0;
         Ok(())
     }
@@ -144,61 +172,6 @@ impl Unit {
         }
         self.settings = settings;
         Ok(())
-    }
-
-    /// Reads an address: (0, its byte), or (1, 0) if it is not in the map.
-    pub fn read(&self, address: u8) -> (u8, u8) {
-        match Register::at(address) {
-            Some(register) => (0, self.register(register)),
-            None => (Refusal::NotInTheMap.number(), 0),
-        }
-    }
-
-    fn register(&self, register: Register) -> u8 {
-        let settings = &self.settings;
-        match register {
-            Register::Input(input) => settings.inputs[usize::from(input) - 1],
-            Register::FreeRun => settings.free_run,
-            Register::Policy => settings.policy,
-            Register::Command => settings.command,
-            Register::Hours => self.hours(),
-            Register::Control => settings.control,
-            Register::OpMode => settings.op_mode,
-            Register::Mask => settings.mask,
-            Register::Delay => settings.delay,
-            Register::Reject => settings.reject,
-            Register::Qualification => settings.qualification,
-            Register::QualifiedMask => self.qualified_mask(),
-            Register::AvailableMask => self.available_mask(),
-            Register::StateAndSelected => 16 * self.pll.state as u8 + self.selected,
-            Register::Flags => self.flags(),
-            Register::Value(byte) => self.value().to_le_bytes()[usize::from(byte)],
-            Register::AvailableCount => self.available_mask().count_ones() as u8,
-        }
-    }
-
-    /// "whole hours (28,125 ticks) in Holdover after the entering event, at
-    /// most 255, else 0"
-    pub fn hours(&self) -> u8 {
-        (self.holdover_ticks / TICKS_PER_HOUR).min(255) as u8
-    }
-
-    /// "bit 0 alarm (Holdover or Free Run), bit 1 not Locked, bit 2 Ready, bit
-    /// 3 backup held"
-    fn flags(&self) -> u8 {
-        let alarm = matches!(self.pll.state, State::Holdover | State::FreeRun);
-        u8::from(alarm)
-            + 2 * u8::from(!self.locked())
-            + 4 * u8::from(self.ready())
-            + 8 * u8::from(self.backup_held())
-    }
-
-    /// The history's value; "0 unless Ready".
-    pub fn value(&self) -> i32 {
-        match self.history.value() {
-            Some(value) if self.ready() => value as i32,
-            _ => 0,
-        }
     }
 
     pub fn ready(&self) -> bool {
@@ -224,25 +197,4 @@ impl Unit {
     fn input_mut(&mut self, input: u8) -> &mut Input {
         &mut self.inputs[usize::from(input) - 1]
     }
-
-    /// "available means qualified and unmasked"
-    pub fn available(&self, input: u8) -> bool {
-        self.input(input).qualified() && self.settings.unmasked(input)
-    }
-
-    pub fn qualified_mask(&self) -> u8 {
-        mask_of(|input| self.input(input).qualified())
-    }
-
-    pub fn available_mask(&self) -> u8 {
-        mask_of(|input| self.available(input))
-    }
-}
-
-/// "in every mask bit i−1 is input i"
-fn mask_of(holds: impl Fn(u8) -> bool) -> u8 {
-    (1..=8)
-        .filter(|&input| holds(input))
-        .map(|input| 1 << (input - 1))
-        .sum()
 }

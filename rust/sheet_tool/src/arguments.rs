@@ -2,6 +2,7 @@
 
 use crate::output::Output;
 use crate::source::Source;
+use shared::options::{unknown, Options};
 use std::ffi::OsString;
 
 #[derive(Clone, Copy, Debug, PartialEq, Eq)]
@@ -35,7 +36,8 @@ pub struct Work {
 }
 
 /// What the arguments ask for, or what is wrong with them.
-pub fn request(mut arguments: impl Iterator<Item = OsString>) -> Result<Request, String> {
+pub fn request(arguments: impl Iterator<Item = OsString>) -> Result<Request, String> {
+    let mut arguments = Options::of(arguments);
     let command = match arguments.next() {
         Some(command) => command,
         None => return Ok(Request::Nothing),
@@ -58,7 +60,7 @@ pub fn request(mut arguments: impl Iterator<Item = OsString>) -> Result<Request,
             Some("--text") => text = true,
             Some("--force") => force = true,
             Some("-o") => {
-                let path = arguments.next().ok_or("-o without a file's name")?;
+                let path = arguments.value("-o", "a file's name")?;
                 let file = match path.to_str() {
                     Some("-") => Output::Standard,
                     _ => Output::File(path.into()),
@@ -66,9 +68,7 @@ pub fn request(mut arguments: impl Iterator<Item = OsString>) -> Result<Request,
                 once(&mut output, file, "-o given twice")?;
             }
             Some("-") => once(&mut source, Source::Input, TWO_SOURCES)?,
-            Some(option) if option.starts_with('-') => {
-                return Err(format!("no such option here: {}", option));
-            }
+            Some(option) if option.starts_with('-') => return Err(unknown(&argument)),
             _ => once(&mut source, Source::File(argument.into()), TWO_SOURCES)?,
         }
     }

@@ -1,13 +1,6 @@
 //! One event of a run sheet, as the fields that document 01 gives it.
 
-/// The kinds of events.
-pub const TICK: u8 = 0;
-pub const MEASUREMENT: u8 = 1;
-pub const HIT: u8 = 2;
-pub const WRITE: u8 = 3;
-
-/// The bytes of an event in a sheet.
-pub const EVENT_BYTES: usize = 8;
+use sheets::BYTES_PER_EVENT;
 
 /// What `a`, `b` and `word` hold is the kind's to say: a tick's mask, lock flag
 /// and sample; a measurement's input and offset; a write's address and value.
@@ -26,7 +19,7 @@ impl Event {
         Event { kind, a, b, word }
     }
 
-    pub fn to_bytes(self) -> [u8; EVENT_BYTES] {
+    pub fn to_bytes(self) -> [u8; BYTES_PER_EVENT] {
         let [low, second, third, high] = self.word.to_le_bytes();
         [self.kind, self.a, self.b, 0, low, second, third, high]
     }

@@ -12,7 +12,6 @@ pub mod output;
 pub mod picture;
 pub mod program;
 pub mod records;
-pub mod refusals;
 pub mod registers;
 pub mod sheet;
 pub mod show;

@@ -1,20 +1,15 @@
 //! From the text to the sheet: `make`.
 
 mod assembly;
+mod fault;
 mod field;
 mod statement;
+
+pub use fault::Fault;
 
 use crate::sheet::Sheet;
 use assembly::Assembly;
 use statement::statement;
-
-/// The first thing wrong in a text.
-#[derive(Clone, Debug, PartialEq, Eq)]
-pub struct Fault {
-    /// From 1.
-    pub line: usize,
-    pub reason: String,
-}
 
 /// The sheet that the text says, statement by statement.
 pub fn make(text: &[u8]) -> Result<Sheet, Fault> {

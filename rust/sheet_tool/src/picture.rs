@@ -1,6 +1,7 @@
 //! The run over time as a picture: `picture`.
 
 mod axis;
+mod fills;
 mod layout;
 mod legend;
 mod marks;
@@ -9,19 +10,14 @@ mod scale;
 mod stretches;
 mod svg;
 
-use crate::records::{selected_name, STATES};
+use crate::records::{selected_name, state_name};
 use crate::stepped::Moment;
 use crate::time::seconds;
+use fills::{selected_fill, state_fill};
 use layout::{Row, AXIS_LABELS_Y, READY, REFUSED, SELECTED, STATE, SUMMARY_Y, TITLE_Y};
 use scale::{Scale, LEFT, RIGHT};
 use stretches::{changes, end, refusals, stretches};
 use svg::{text_width, Anchor, Svg, NORMAL, TITLE};
-
-/// The fills of the states, by their numbers: those that follow each other differ
-/// in lightness too.
-const STATE_FILLS: [&str; 6] = [
-    "#e9a58c", "#f6dc8c", "#e6f1fb", "#7dbd8d", "#b98ac6", "#b5d3f0",
-];
 
 /// The picture of a run, an SVG. The same run has the same picture.
 pub fn picture(title: &str, moments: &[Moment]) -> String {
@@ -89,28 +85,13 @@ fn all_rows(svg: &mut Svg, scale: &Scale, moments: &[Moment]) {
         selected_fill,
         selected_name,
     );
-    let state = stretches(moments, |moment| moment.record.state_number() as u8);
-    rows::band(svg, scale, STATE, &state, state_fill, state_name);
+    let state = stretches(moments, |moment| moment.record.state_number());
+    let name = |number| state_name(number).to_string();
+    rows::band(svg, scale, STATE, &state, state_fill, name);
     let ready = stretches(moments, |moment| moment.record.ready());
     rows::named_bars(svg, scale, READY, &ready, "Ready");
     for input in 1..=8 {
         rows::input(svg, scale, moments, input);
     }
     marks::refused(svg, scale, moments);
-}
-
-fn selected_fill(selected: u8) -> &'static str {
-    match selected {
-        0 => "#fff",
-        9 => STATE_FILLS[0],
-        _ => "#ececec",
-    }
-}
-
-fn state_fill(number: u8) -> &'static str {
-    STATE_FILLS.get(usize::from(number)).unwrap_or(&"#fff")
-}
-
-fn state_name(number: u8) -> String {
-    STATES.get(usize::from(number)).unwrap_or(&"?").to_string()
 }

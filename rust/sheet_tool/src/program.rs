@@ -8,6 +8,7 @@ use crate::records::run;
 use crate::show::show;
 use crate::stepped::moments;
 use crate::table::table;
+use shared::options::message;
 use std::ffi::OsString;
 use std::io::Write;
 use std::process::ExitCode;
@@ -19,7 +20,7 @@ pub fn main(arguments: impl Iterator<Item = OsString>) -> ExitCode {
         Ok(Request::Help) => (Output::Standard.write(HELP.as_bytes()).err(), 1),
         Ok(Request::Nothing) => (Some(HELP.trim_end().to_string()), 2),
         Ok(Request::Work(work)) => (do_work(&work).err(), 1),
-        Err(reason) => (Some(format!("sheet: {}; see sheet --help", reason)), 2),
+        Err(reason) => (Some(message("sheet", &reason)), 2),
     };
     match message {
         None => ExitCode::SUCCESS,

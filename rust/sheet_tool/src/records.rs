@@ -1,7 +1,8 @@
 //! The records of a run, as words can tell them.
 
-use crate::event::TICK;
-use crate::sheet::{Sheet, RECORD_BYTES};
+use crate::sheet::Sheet;
+use controller::{STATES, TICK};
+use sheets::BYTES_PER_RECORD;
 
 /// A record of document 01: the refusal or 0, then the bytes of 0x48, 0x46 and
 /// 0x49.
@@ -13,16 +14,6 @@ pub struct Record {
     pub status: u8,
 }
 
-/// The names of the states by their numbers.
-pub const STATES: [&str; 6] = [
-    "Free Run",
-    "Holdover",
-    "Pre-locked",
-    "Locked",
-    "Loss of lock",
-    "Pre-locked 2",
-];
-
 impl Record {
     fn from_bytes(bytes: &[u8]) -> Record {
         Record {
@@ -33,13 +24,12 @@ impl Record {
         }
     }
 
-    /// The number of the state, by which `STATES` has its name.
-    pub fn state_number(self) -> usize {
-        usize::from(self.state >> 4)
+    pub fn state_number(self) -> u8 {
+        self.state >> 4
     }
 
     pub fn state_name(self) -> &'static str {
-        STATES.get(self.state_number()).unwrap_or(&"?")
+        state_name(self.state_number())
     }
 
     /// 0 is none, 9 Free Run.
@@ -60,6 +50,11 @@ impl Record {
     }
 }
 
+/// The name of a state, by its number.
+pub fn state_name(number: u8) -> &'static str {
+    STATES.get(usize::from(number)).unwrap_or(&"?")
+}
+
 /// What is selected, in words.
 pub fn selected_name(selected: u8) -> String {
     match selected {
@@ -78,9 +73,9 @@ pub struct Timed {
 
 /// Runs a sheet that the check lets through.
 pub fn run(sheet: &Sheet) -> Vec<Timed> {
-    let mut output = vec![0; RECORD_BYTES * sheet.steps().count()];
+    let mut output = vec![0; BYTES_PER_RECORD * sheet.steps().count()];
     let written = sheets::run(&sheet.to_bytes(), &mut output);
-    let records = output[..written].chunks(RECORD_BYTES);
+    let records = output[..written].chunks(BYTES_PER_RECORD);
     let mut ticks = 0;
     let timed = |(step, bytes)| {
         let record = Record::from_bytes(bytes);

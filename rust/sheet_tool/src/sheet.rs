@@ -1,14 +1,8 @@
 //! A run sheet: its settings and events, to and from its bytes.
 
-use crate::event::{Event, EVENT_BYTES, WRITE};
-
-/// Document 01's limits of a sheet.
-pub const LONGEST_SHEET: usize = 65_535;
-pub const MOST_SETTINGS: usize = 256;
-
-const COUNT_BYTES: usize = 2;
-const SETTING_BYTES: usize = 2;
-pub const RECORD_BYTES: usize = 4;
+use crate::event::Event;
+use controller::WRITE;
+use sheets::{BYTES_PER_COUNT, BYTES_PER_EVENT, BYTES_PER_SETTING, MOST_SETTINGS};
 
 /// An address and a value.
 pub type Setting = (u8, u8);
@@ -21,7 +15,7 @@ pub struct Sheet {
 
 /// How many bytes a sheet of so many settings and events has.
 pub fn length(settings: usize, events: usize) -> usize {
-    2 * COUNT_BYTES + SETTING_BYTES * settings + EVENT_BYTES * events
+    2 * BYTES_PER_COUNT + BYTES_PER_SETTING * settings + BYTES_PER_EVENT * events
 }
 
 impl Sheet {
@@ -30,7 +24,7 @@ impl Sheet {
     pub fn from_bytes(bytes: &[u8]) -> Result<Sheet, u8> {
         // Each record's room is less than the bytes that it comes from, but
         // for the settings'.
-        let room = bytes.len() + SETTING_BYTES * MOST_SETTINGS;
+        let room = bytes.len() + BYTES_PER_SETTING * MOST_SETTINGS;
         match sheets::check(bytes, room) {
             0 => Ok(Sheet::of_checked(bytes)),
             refusal => Err(refusal),
@@ -38,13 +32,19 @@ impl Sheet {
     }
 
     fn of_checked(bytes: &[u8]) -> Sheet {
-        let (count, rest) = bytes.split_at(COUNT_BYTES);
+        let (count, rest) = bytes.split_at(BYTES_PER_COUNT);
         let count = usize::from(u16::from_le_bytes([count[0], count[1]]));
-        let (settings, rest) = rest.split_at(SETTING_BYTES * count);
-        let events = &rest[COUNT_BYTES..];
+        let (settings, rest) = rest.split_at(BYTES_PER_SETTING * count);
+        let events = &rest[BYTES_PER_COUNT..];
         Sheet {
-            settings: settings.chunks(2).map(|pair| (pair[0], pair[1])).collect(),
-            events: events.chunks(EVENT_BYTES).map(Event::from_bytes).collect(),
+            settings: settings
+                .chunks(BYTES_PER_SETTING)
+                .map(|pair| (pair[0], pair[1]))
+                .collect(),
+            events: events
+                .chunks(BYTES_PER_EVENT)
+                .map(Event::from_bytes)
+                .collect(),
         }
     }
 

@@ -1,9 +1,10 @@
 //! From the sheet to the text: `show`. What it writes, `make` turns into the
 //! same sheet.
 
-use crate::event::{Event, HIT, MEASUREMENT, TICK};
+use crate::event::Event;
 use crate::registers;
 use crate::sheet::{Setting, Sheet};
+use controller::{HIT, MEASUREMENT, TICK};
 use shared::runs::runs;
 
 pub fn show(sheet: &Sheet) -> String {

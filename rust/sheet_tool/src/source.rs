@@ -2,8 +2,9 @@
 //! input.
 
 use crate::make::make;
-use crate::refusals::reason;
-use crate::sheet::{Sheet, LONGEST_SHEET};
+use crate::sheet::Sheet;
+use controller::reason;
+use sheets::LONGEST_SHEET;
 use std::fs::File;
 use std::io::{self, Read};
 use std::path::{Path, PathBuf};

@@ -1,8 +1,8 @@
 //! The records of a run as a table: `run`.
 
 use crate::records::{selected_name, Timed};
-use crate::refusals::reason;
 use crate::time::seconds;
+use controller::reason;
 use shared::runs::{runs, Run};
 
 /// The columns' titles and widths; numbers stand to the right. The last column

@@ -1,6 +1,16 @@
 //! The bindings to the real controller's run sheets, a static library with a C
 //! interface. The host lends the sheet and the output for each call.
 
+/// The limits of a sheet.
+pub const LONGEST_SHEET: usize = 65_535;
+pub const MOST_SETTINGS: usize = 256;
+
+/// The sizes of its parts, and of what each setting and event gives.
+pub const BYTES_PER_COUNT: usize = 2;
+pub const BYTES_PER_SETTING: usize = 2;
+pub const BYTES_PER_EVENT: usize = 8;
+pub const BYTES_PER_RECORD: usize = 4;
+
 extern "C" {
     fn sheet_check(sheet: *const u8, len: usize, output_len: usize) -> u8;
     fn sheet_run(sheet: *const u8, len: usize, output: *mut u8, output_len: usize) -> usize;

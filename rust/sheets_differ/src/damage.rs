@@ -1,9 +1,9 @@
 //! The kinds of damage that a sheet can take, and the edges of the rules for
 //! sheets: each with its name and with what it does to the bytes.
 
-use crate::sheet::Sheet;
+use crate::sheet::{length, Sheet};
 use differ::draw;
-use model::{Event, LONGEST_SHEET};
+use model::{Event, LONGEST_SHEET, MOST_SETTINGS};
 use shared::random::Random;
 
 type Work = Box<dyn Fn(&mut Random, &mut Sheet)>;
@@ -40,7 +40,7 @@ pub fn damages() -> Vec<Damage> {
         COUNTS,
         |count| format!("settings count changed to {}", count),
         |_, sheet, count| sheet.set_count(0, count),
-        |count| (count > 256).then_some(9),
+        |count| (usize::from(count) > MOST_SETTINGS).then_some(9),
     ));
     list.extend(family(
         COUNTS,
@@ -56,18 +56,15 @@ pub fn damages() -> Vec<Damage> {
         [255, 256, 257],
         |settings| format!("{} settings", settings),
         |_, sheet, settings| *sheet = sheet.resized(settings, sheet.events.len()),
-        |settings| Some(if settings > 256 { 9 } else { 0 }),
+        |settings| Some(if settings > MOST_SETTINGS { 9 } else { 0 }),
     ));
     list.extend(family(
         LARGE,
         |(settings, events)| format!("{} settings and {} events", settings, events),
         |_, sheet, (settings, events)| *sheet = sheet.resized(settings, events),
         |(settings, events)| {
-            Some(if 2 * settings + 8 * events > 65_531 {
-                9
-            } else {
-                0
-            })
+            let too_long = length(settings, events) > LONGEST_SHEET;
+            Some(if too_long { 9 } else { 0 })
         },
     ));
     list.extend(family(

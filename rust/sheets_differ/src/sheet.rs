@@ -6,11 +6,15 @@ use differ::draw;
 use differ::list::{List, Step};
 use differ::phases::{become_ready, other_habits};
 use differ::scenarios::mix_phases;
-use model::{sheet_of, Event, Unit, BYTES_PER_EVENT, BYTES_PER_SETTING, LONGEST_SHEET};
+use model::{
+    sheet_of, Event, Unit, BYTES_PER_COUNT, BYTES_PER_EVENT, BYTES_PER_SETTING, LONGEST_SHEET,
+};
 use shared::random::Random;
 
-/// The two counts of a sheet.
-const COUNTS: usize = 4;
+/// How many bytes a sheet of so many settings and events has.
+pub fn length(settings: usize, events: usize) -> usize {
+    2 * BYTES_PER_COUNT + BYTES_PER_SETTING * settings + BYTES_PER_EVENT * events
+}
 
 /// A sheet on its way to be damaged: its bytes, and what they held at first.
 #[derive(Clone, Debug)]
@@ -39,7 +43,7 @@ impl Sheet {
     /// Where the setting of this index begins; that after the last is the
     /// place of the events count.
     pub fn setting_place(&self, index: usize) -> usize {
-        2 + BYTES_PER_SETTING * index
+        BYTES_PER_COUNT + BYTES_PER_SETTING * index
     }
 
     pub fn events_count_place(&self) -> usize {
@@ -48,7 +52,7 @@ impl Sheet {
 
     /// Where the event of this index begins.
     pub fn event_place(&self, index: usize) -> usize {
-        self.events_count_place() + 2 + BYTES_PER_EVENT * index
+        self.events_count_place() + BYTES_PER_COUNT + BYTES_PER_EVENT * index
     }
 
     pub fn any_setting(&self, random: &mut Random) -> usize {
@@ -60,7 +64,7 @@ impl Sheet {
     }
 
     pub fn set_count(&mut self, place: usize, count: u16) {
-        self.bytes[place..place + 2].copy_from_slice(&count.to_le_bytes());
+        self.bytes[place..place + BYTES_PER_COUNT].copy_from_slice(&count.to_le_bytes());
     }
 }
 
@@ -109,7 +113,7 @@ pub fn small(random: &mut Random) -> Sheet {
 }
 
 fn most_events(settings: u32) -> u32 {
-    let rest = LONGEST_SHEET - COUNTS - BYTES_PER_SETTING * settings as usize;
+    let rest = LONGEST_SHEET - length(settings as usize, 0);
     (rest / BYTES_PER_EVENT) as u32
 }
 

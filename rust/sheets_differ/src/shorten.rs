@@ -1,7 +1,7 @@
 //! A shorter sheet with a difference: settings and events are left out as long
 //! as the difference stays.
 
-use model::{BYTES_PER_EVENT, BYTES_PER_SETTING};
+use model::{BYTES_PER_COUNT, BYTES_PER_EVENT, BYTES_PER_SETTING};
 use shared::leave_out::{leave_out, Budget};
 
 /// The settings and events tried in all, after which the sheet is taken as it
@@ -30,16 +30,16 @@ type Parts = Vec<Vec<u8>>;
 /// The bytes of each setting and of each event.
 fn parts(sheet: &[u8]) -> Option<(Parts, Parts)> {
     let count_at = |place: usize| {
-        let bytes = sheet.get(place..place + 2)?;
+        let bytes = sheet.get(place..place + BYTES_PER_COUNT)?;
         Some(usize::from(u16::from_le_bytes([bytes[0], bytes[1]])))
     };
-    let end = 2 + BYTES_PER_SETTING * count_at(0)?;
-    let start = end + 2;
+    let end = BYTES_PER_COUNT + BYTES_PER_SETTING * count_at(0)?;
+    let start = end + BYTES_PER_COUNT;
     if sheet.len() != start + BYTES_PER_EVENT * count_at(end)? {
         return None;
     }
     let cut = |part: &[u8], bytes: usize| part.chunks(bytes).map(<[u8]>::to_vec).collect();
-    let settings = cut(&sheet[2..end], BYTES_PER_SETTING);
+    let settings = cut(&sheet[BYTES_PER_COUNT..end], BYTES_PER_SETTING);
     Some((settings, cut(&sheet[start..], BYTES_PER_EVENT)))
 }
 

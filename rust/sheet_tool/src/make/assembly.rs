@@ -1,10 +1,11 @@
 //! The sheet as its statements come: the order of settings and events, repeated
 //! groups, and the limits of a sheet, which are checked before anything grows.
 
+use super::fault::Fault;
 use super::field::GROUP_DEPTH;
 use super::statement::Statement;
-use super::Fault;
-use crate::sheet::{length, Setting, Sheet, LONGEST_SHEET, MOST_SETTINGS};
+use crate::sheet::{length, Setting, Sheet};
+use sheets::{LONGEST_SHEET, MOST_SETTINGS};
 
 #[derive(Default)]
 pub struct Assembly {

@@ -1,8 +1,9 @@
 //! One line of the text: a statement, or nothing.
 
 use super::field::{shortened, Field, ADDRESS, COUNT, INPUT, LOCK, MASK, OFFSET, SAMPLE, VALUE};
-use crate::event::{Event, HIT, MEASUREMENT, TICK, WRITE};
+use crate::event::Event;
 use crate::sheet::Setting;
+use controller::{HIT, MEASUREMENT, TICK, WRITE};
 
 #[derive(Clone, Debug, PartialEq, Eq)]
 pub enum Statement {

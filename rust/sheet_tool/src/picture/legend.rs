@@ -1,15 +1,15 @@
 //! What the fills and bars mean, and the reasons of the refusals that are
 //! marked.
 
+use super::fills::state_fill;
 use super::layout::{Row, LEGEND_Y, NOTES_Y, NOTE_HEIGHT};
 use super::rows::{selected_line, BAR, SELECTED_LINE};
 use super::scale::LEFT;
 use super::stretches::refusals;
 use super::svg::{text_width, Anchor, Svg, NORMAL};
-use super::{state_fill, state_name};
-use crate::records::STATES;
-use crate::refusals::reason;
+use crate::records::state_name;
 use crate::stepped::Moment;
+use controller::{reason, STATES};
 use std::collections::BTreeSet;
 
 const SWATCH: u64 = 18;
@@ -25,7 +25,7 @@ pub fn draw(svg: &mut Svg, moments: &[Moment]) -> u64 {
     for number in 0..STATES.len() as u8 {
         let style = format!("fill=\"{}\" stroke=\"#333\"", state_fill(number));
         svg.areas([row.area(x, x + SWATCH)], &style);
-        x = name(svg, x, &state_name(number));
+        x = name(svg, x, state_name(number));
     }
     svg.areas([row.area(x, x + SWATCH)], BAR);
     x = name(svg, x, "available");

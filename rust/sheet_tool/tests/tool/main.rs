@@ -11,6 +11,7 @@ mod program;
 mod random;
 mod refused;
 mod round_trip;
+mod same_numbers;
 mod same_records;
 mod stories;
 mod tables;

@@ -3,8 +3,9 @@
 
 use crate::files::{example, examples, read_text, repository};
 use crate::process::sheet;
-use crate::random::Random;
+use crate::random;
 use crate::xml::texts;
+use shared::random::Random;
 use sheet_tool::make::make;
 use sheet_tool::picture::picture;
 use sheet_tool::records::run;
@@ -30,7 +31,7 @@ fn check(svg: &str) -> Vec<&str> {
     for name in names.iter().map(|name| name.to_string()).chain(inputs) {
         assert!(texts.contains(&name.as_str()), "no row {}", name);
     }
-    for name in sheet_tool::records::STATES {
+    for name in controller::STATES {
         assert!(texts.contains(&name), "no state {}", name);
     }
     texts
@@ -86,7 +87,7 @@ fn random_sheets_are_drawn() {
     let mut random = Random::new(4);
     for _ in 0..200 {
         let events = random.below(300) as usize;
-        let sheet = random.sheet(8, events);
+        let sheet = random::sheet(&mut random, 8, events);
         check(&drawn("random", &sheet));
     }
     check(&drawn("nothing", &Sheet::default()));
@@ -109,7 +110,7 @@ fn a_busy_picture_stays_small() {
     let svg = drawn("busy", &sheet);
     check(&svg);
     assert!(svg.len() < 70_000, "{} bytes", svg.len());
-    let longest = Random::new(5).sheet(256, 8_127);
+    let longest = random::sheet(&mut Random::new(5), 256, 8_127);
     let svg = drawn("longest", &longest);
     check(&svg);
     assert!(svg.len() < 70_000, "{} bytes", svg.len());

@@ -1,8 +1,10 @@
 //! `make` of what `show` gives is the same sheet, byte for byte.
 
-use crate::random::Random;
+use crate::random::sheet;
 use crate::same_records;
-use sheet_tool::event::{Event, HIT, TICK};
+use controller::{HIT, MEASUREMENT, TICK, WRITE};
+use shared::random::Random;
+use sheet_tool::event::Event;
 use sheet_tool::make::make;
 use sheet_tool::sheet::Sheet;
 use sheet_tool::show::show;
@@ -21,7 +23,7 @@ fn random_sheets() {
     for _ in 0..3_000 {
         let settings = random.below(20) as usize;
         let events = random.below(60) as usize;
-        check(&random.sheet(settings, events).to_bytes());
+        check(&sheet(&mut random, settings, events).to_bytes());
     }
 }
 
@@ -29,11 +31,11 @@ fn random_sheets() {
 fn none_and_the_most() {
     let mut random = Random::new(2);
     for (settings, events) in [(0, 0), (0, 1), (256, 0), (256, 8_127), (0, 8_191)] {
-        check(&random.sheet(settings, events).to_bytes());
+        check(&sheet(&mut random, settings, events).to_bytes());
     }
-    let longest = random.sheet(0, 8_191).to_bytes();
+    let longest = sheet(&mut random, 0, 8_191).to_bytes();
     assert_eq!(longest.len(), 65_532);
-    let full = random.sheet(256, 8_127).to_bytes();
+    let full = sheet(&mut random, 256, 8_127).to_bytes();
     assert_eq!(full.len(), 65_532);
 }
 
@@ -43,9 +45,9 @@ fn every_setting_and_every_offset() {
     for byte in 0..=255 {
         sheet.settings.push((byte, byte));
         sheet.events.push(Event::short(TICK, byte, 1));
-        sheet.events.push(Event::short(1, byte, byte));
+        sheet.events.push(Event::short(MEASUREMENT, byte, byte));
         sheet.events.push(Event::short(HIT, 0, 0));
-        sheet.events.push(Event::short(3, byte, 255 - byte));
+        sheet.events.push(Event::short(WRITE, byte, 255 - byte));
     }
     check(&sheet.to_bytes());
 }
@@ -77,6 +79,6 @@ fn records_of_random_sheets() {
     let mut random = Random::new(3);
     for _ in 0..200 {
         let events = random.below(400) as usize;
-        same_records::check(&random.sheet(10, events));
+        same_records::check(&sheet(&mut random, 10, events));
     }
 }

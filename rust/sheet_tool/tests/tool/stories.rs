@@ -2,8 +2,9 @@
 //! statements. `docs/MAINTAINING.md`, "Add a case", says what is asked here.
 
 use crate::files::{example, examples, read_text};
+use controller::STATES;
 use sheet_tool::make::make;
-use sheet_tool::records::{run, Timed, STATES};
+use sheet_tool::records::{run, Timed};
 use sheet_tool::time::{seconds, TICK_MS};
 
 /// So many lines a story has at least.

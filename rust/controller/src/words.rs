@@ -1,5 +1,23 @@
-//! What the numbers of refusals mean: document 01, "Turned down".
+//! The numbers of the interface: the kinds of events, and the states and
+//! refusals as document 01 calls them.
 
+/// The kinds of events.
+pub const TICK: u8 = 0;
+pub const MEASUREMENT: u8 = 1;
+pub const HIT: u8 = 2;
+pub const WRITE: u8 = 3;
+
+/// The names of the states by their numbers, the upper digit of 0x48.
+pub const STATES: [&str; 6] = [
+    "Free Run",
+    "Holdover",
+    "Pre-locked",
+    "Locked",
+    "Loss of lock",
+    "Pre-locked 2",
+];
+
+/// "Turned down", from 1 on.
 const REASONS: [&str; 13] = [
     "address not in the map",
     "write to a read-only register",

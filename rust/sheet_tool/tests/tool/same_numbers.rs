@@ -1,0 +1,40 @@
+//! What the bindings say of document 01's numbers is what the model reads in it,
+//! each for itself.
+
+use controller::{HIT, MEASUREMENT, STATES, TICK, WRITE};
+use model::{Event, State};
+
+#[test]
+fn the_names_of_the_states() {
+    assert_eq!(State::ALL.map(State::name), STATES);
+    assert_eq!(State::ALL.map(|state| state as u8), [0, 1, 2, 3, 4, 5]);
+}
+
+#[test]
+fn the_kinds_of_events() {
+    let events = [
+        Event::from_fields(TICK, 1, 1, 1),
+        Event::from_fields(MEASUREMENT, 1, 1, 0),
+        Event::from_fields(HIT, 0, 0, 0),
+        Event::from_fields(WRITE, 1, 1, 0),
+    ];
+    assert!(matches!(
+        events,
+        [
+            Some(Event::Tick { .. }),
+            Some(Event::Measurement { .. }),
+            Some(Event::Hit),
+            Some(Event::Write { .. })
+        ]
+    ));
+}
+
+#[test]
+fn the_sizes_of_a_sheet() {
+    assert_eq!(sheets::LONGEST_SHEET, model::LONGEST_SHEET);
+    assert_eq!(sheets::MOST_SETTINGS, model::MOST_SETTINGS);
+    assert_eq!(sheets::BYTES_PER_COUNT, model::BYTES_PER_COUNT);
+    assert_eq!(sheets::BYTES_PER_SETTING, model::BYTES_PER_SETTING);
+    assert_eq!(sheets::BYTES_PER_EVENT, model::BYTES_PER_EVENT);
+    assert_eq!(sheets::BYTES_PER_RECORD, model::BYTES_PER_RECORD);
+}
