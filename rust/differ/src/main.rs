@@ -7,7 +7,7 @@ use differ::difference::{Difference, Name};
 use differ::report::{grouped, print_counts, print_repeat};
 use differ::run::{names, run_list, run_lists, LONG_LISTS};
 use differ::shrink::Shrink;
-use shared::options::{at_fault, unknown, Options};
+use shared::options::{chosen, unknown, Options};
 use std::ffi::OsString;
 use std::process::ExitCode;
 
@@ -28,13 +28,9 @@ struct Choices {
 }
 
 fn main() -> ExitCode {
-    let choices = match choices(Options::of(std::env::args_os().skip(1))) {
-        Ok(Some(choices)) => choices,
-        Ok(None) => {
-            println!("{}", USAGE);
-            return ExitCode::SUCCESS;
-        }
-        Err(reason) => return at_fault("differ", &reason),
+    let choices = match chosen("differ", USAGE, choices) {
+        Ok(choices) => choices,
+        Err(end) => return end,
     };
     let passed = if choices.with_itself {
         compare(&model::Unit::fresh(), &choices)

@@ -1,7 +1,9 @@
 //! A program's options: read one after the other, told when they are at fault,
 //! and written as a shell takes them.
 
+use std::env::ArgsOs;
 use std::ffi::{OsStr, OsString};
+use std::iter::Skip;
 use std::path::Path;
 use std::process::ExitCode;
 use std::str::FromStr;
@@ -44,6 +46,23 @@ pub fn unknown(argument: &OsStr) -> String {
 /// What a program says of arguments at fault.
 pub fn message(program: &str, reason: &str) -> String {
     format!("{0}: {1}; see {0} --help", program, reason)
+}
+
+/// What a program's arguments choose; or its end, where `read` says that the
+/// usage is asked for, by none, or that they are at fault.
+pub fn chosen<C>(
+    program: &str,
+    usage: &str,
+    read: impl FnOnce(Options<Skip<ArgsOs>>) -> Result<Option<C>, String>,
+) -> Result<C, ExitCode> {
+    match read(Options::of(std::env::args_os().skip(1))) {
+        Ok(Some(choices)) => Ok(choices),
+        Ok(None) => {
+            println!("{}", usage);
+            Err(ExitCode::SUCCESS)
+        }
+        Err(reason) => Err(at_fault(program, &reason)),
+    }
 }
 
 /// The end of a program whose arguments are at fault.

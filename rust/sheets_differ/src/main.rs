@@ -2,7 +2,7 @@
 //! the model over random sheets and tells what was reached.
 
 use differ::report::{grouped, print_counts, print_repeat};
-use shared::options::{at_fault, unknown, Options};
+use shared::options::{chosen, unknown, Options};
 use shared::random::Random;
 use sheets_differ::compare::Against;
 use sheets_differ::coverage::Coverage;
@@ -69,13 +69,9 @@ impl Runners {
 }
 
 fn main() -> ExitCode {
-    let choices = match choices(Options::of(std::env::args_os().skip(1))) {
-        Ok(Some(choices)) => choices,
-        Ok(None) => {
-            println!("{}", USAGE);
-            return ExitCode::SUCCESS;
-        }
-        Err(reason) => return at_fault("sheets_differ", &reason),
+    let choices = match chosen("sheets_differ", USAGE, choices) {
+        Ok(choices) => choices,
+        Err(end) => return end,
     };
     match run(&choices) {
         Ok(true) => ExitCode::SUCCESS,
