@@ -5,7 +5,7 @@ use mathlib.Core.Bool.{true, false}
 use mathlib.Core.List.{List}
 use native.Mathlib.Omega.{arith}
 use borrow.Author.Tests.{lt-ltb, le-ltb, ltb-false, not-false}
-use lib.ListN.{length, drop, getD, List·getD-eq-default}
+use lib.ListN.{length, drop}
 use Rattle.rules.specs.Sheet.{bad, decodedNumber, settingsCount, eventsCount, eventsAt, sheetEnd, allEvents, recordCount, check}
 use Rattle.rules.proofs.Tests.{unrefused, or-true, or-false}
 
@@ -57,11 +57,6 @@ module _ (s : List ℕ) (room : ℕ) where
       let l : sheetEnd s ≤ length s = omega arith in
       let m : length s ≤ sheetEnd s = omega arith in
       simp (le-ltb _ _ (a .short), le-ltb _ _ (a .few), le-ltb _ _ l, le-ltb _ _ m, g, le-ltb _ _ h)
-
--- a sheet with no whole count
-pub no-count : (s : List ℕ) → length s < 2 → getD s 0 0 < 256 → settingsCount s ≤ 256
-unfolding settingsCount
-no-count s h b = omega (arith, List·getD-eq-default s 0 {n = 1} (omega arith))
 
 -- A sheet that will run.
 pub record Runs (s : List ℕ) (room : ℕ) : Type 0 where

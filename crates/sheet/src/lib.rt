@@ -2,9 +2,9 @@
 // Each contract is an equation with a rule of crates/rules/specs/Sheet.antt; the rule is named above the function.
 ghost use mathlib.Core.Path.{_≡_};
 ghost use Prim.Native.Nat.{_+_, _*_, _≤_, _<_};
-ghost use lib.ListN.{length};
+ghost use lib.ListN.{length, getD};
 ghost use Rattle.rules.specs.Sheet as rules;
-ghost use Rattle.rules.specs.Sheet.{word16, word32, signedWord, settingsCount, eventsCount, eventsAt, allEvents};
+ghost use Rattle.rules.specs.Sheet.{word16, word32, signedWord, settingsCount, eventsCount, allEvents};
 ghost use Rattle.fields.specs.Bridge.{decodedOf};
 use fields::Decoded;
 
@@ -33,14 +33,6 @@ fn half_at(s: &[u8], at: usize) -> u32
     ensures { λ r. ⌜ (r ≡ word16 (now (s .entry)) at) × (r < 65_536) ⌝ }
 {
     wide(s[at]) + 256 * wide(s[at + 1])
-}
-
-// A section's count.
-fn count_at(s: &[u8], at: usize) -> usize
-    requires { ⌜ at + 1 < length (now s) ⌝ }
-    ensures { λ r. ⌜ (r ≡ word16 (now (s .entry)) at) × (r < 65_536) ⌝ }
-{
-    half_at(s, at) as usize
 }
 
 // The rule `word32`.
@@ -92,25 +84,31 @@ pub struct Counts {
     pub events: usize,
 }
 
-// The rules `settingsCount` and `eventsCount`. A sheet that ends before the events has none of either.
+// A byte of a sheet, 0 where it has none.
+fn byte_at(s: &[u8], at: usize) -> u32
+    ensures { λ r. ⌜ (r ≡ getD (now (s .entry)) at 0) × (r < 256) ⌝ }
+{
+    if at < s.len() {
+        return wide(s[at]);
+    }
+    0
+}
+
+// The rule `word16`, as a section's count.
+fn count_at(s: &[u8], at: usize) -> usize
+    requires { ⌜ at < 131_074 ⌝ }
+    ensures { λ r. ⌜ (r ≡ word16 (now (s .entry)) at) × (r < 65_536) ⌝ }
+{
+    (byte_at(s, at) + 256 * byte_at(s, at + 1)) as usize
+}
+
+// The rules `settingsCount` and `eventsCount`.
 pub fn counts_of(sheet: &[u8]) -> Counts
-    ensures { λ r. ⌜ (eventsAt (now (sheet .entry)) + 2 ≤ length (now (sheet .entry)) → (r .settings ≡ settingsCount (now (sheet .entry))) × (r .events ≡ eventsCount (now (sheet .entry)))) ⌝ }
+    ensures { λ r. ⌜ (r .settings ≡ settingsCount (now (sheet .entry))) × (r .events ≡ eventsCount (now (sheet .entry))) ⌝ }
     ensures { λ r. ⌜ (r .settings < 65_536) × (r .events < 65_536) ⌝ }
 {
-    let none = Counts {
-        settings: 0,
-        events: 0,
-    };
-    let len = sheet.len();
-    if len < 2 {
-        return none;
-    }
     let settings = count_at(sheet, 0);
-    let place = 2 + 2 * settings;
-    if len < place + 2 {
-        return none;
-    }
-    let events = count_at(sheet, place);
+    let events = count_at(sheet, 2 + 2 * settings);
     Counts {
         settings: settings,
         events: events,
@@ -124,22 +122,16 @@ pub fn check(sheet: &[u8], room: usize) -> u8
     ensures { λ r. ⌜ r ≡ rules.check (now (sheet .entry)) room ⌝ }
 {
     let len = sheet.len();
+    let c = counts_of(sheet);
+    let settings = c.settings;
+    let events = c.events;
     if 65_535 < len {
         return 9;
     }
-    if len < 2 {
-        return 10;
-    }
-    let settings = count_at(sheet, 0);
     if 256 < settings {
         return 9;
     }
-    let place = 2 + 2 * settings;
-    if len < place + 2 {
-        return 10;
-    }
-    let events = count_at(sheet, place);
-    let start = place + 2;
+    let start = 2 + 2 * settings + 2;
     let end = start + 8 * events;
     if len < end {
         return 10;

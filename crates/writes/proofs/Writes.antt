@@ -41,8 +41,3 @@ pub write-out : (regs : List ℕ) (a v : ℕ) → 27 ≤ place a
     → settingsFrom regs ≡ (if inMap a then written a v (settingsFrom regs) else settingsFrom regs)
 unfolding inMap
 write-out regs a v h = rw (le-ltb (place a) 27 h)
-
--- after a write that is not turned down, the settings are those of the rules
-pub accepted-written : (set after : Settings) (ready held : Bool) (a v : ℕ) → writeRefusal set ready held a v ≡ 0
-    → after ≡ (if inMap a then written a v set else set) → after ≡ written a v set
-accepted-written set after ready held a v e w = w ∙ rw (accepted-in-map set ready held a v e)

@@ -24,8 +24,7 @@ zero c = sym (c .before .check .ensures) ∙ c .if1 .left
 counts : (c : tie.After-counts-of)
     → let s = now (c .before .before .before .before .before .args .sheet) in
     (c .counts-of .result .settings ≡ settingsCount s) × (c .counts-of .result .events ≡ eventsCount s)
-unfolding sheetEnd
-counts c = c .counts-of .ensures .0 (omega (arith, runs _ _ (zero (c .before)) .whole))
+counts c = c .counts-of .ensures .0
 
 -- what the counts of a sheet that will run say of its length, and of the output's
 record Sizes (settings events len room : ℕ) : Type 0 where
