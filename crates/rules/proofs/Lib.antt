@@ -20,3 +20,4 @@ pub mod Refusals
 pub mod Laws
 pub mod Progress
 pub mod Promise
+pub mod Records

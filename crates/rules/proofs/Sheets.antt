@@ -9,8 +9,9 @@ use lib.ListN.{length, drop, length-append, length-drop}
 use borrow.Author.Tests.{ltb-true, ltb-false, lt-ltb, eq-eqb, ne-eqb, not-false}
 use Rattle.rules.specs.Events.{Event}
 use Rattle.rules.specs.State.{State}
-use Rattle.rules.specs.Registers.{fresh}
-use Rattle.rules.specs.Run.{outcome}
+use Rattle.rules.specs.Registers.{fresh, registers, place, inMap, register, readOnly}
+use Rattle.rules.specs.Reading.{qualifiedMask, stateByte, statusByte, shown, content, read}
+use Rattle.rules.specs.Run.{outcome, run}
 use Rattle.rules.specs.Sheet.{Decoded, event, bad, decode, settingsCount, eventsAt, eventsCount, sheetEnd, settingsOf, before, eventsOf, sheetEvents, isEvent, allEvents, recordCount, check, recordOf, records, front, outputAfter}
 use Rattle.rules.specs.Printout.{digit, decimalIn, decimal}
 use Rattle.rules.specs.Laws.{Outputs, OutputKept, number, Decimal}
@@ -35,6 +36,16 @@ length-events zero l e = refl
 length-events (suc k) l e =
     length-before (decode l) (eventsOf k (drop 8 l)) (and-left (isEvent (decode l)) (allEvents k (drop 8 l)) e)
     ∙ ap suc (length-events k (drop 8 l) (and-right (isEvent (decode l)) (allEvents k (drop 8 l)) e))
+
+-- a record's bytes: the refusal, and what the rules read at 0x48, 0x46 and 0x49
+pub record-is : (n : ℕ) (s : State) → recordOf (record { refusal = n; state = s }) ≡ n ∷ stateByte s ∷ qualifiedMask s ∷ statusByte s ∷ []
+unfolding recordOf read content shown registers place inMap register readOnly
+record-is n s = refl
+
+pub records-append : (s : State) (xs ys : List Event) → records s (xs ++ ys) ≡ records s xs ++ records (run s xs) ys
+unfolding records recordOf run outcome
+records-append s [] ys = refl
+records-append s (e ∷ es) ys = ap (λ (l : List ℕ). recordOf (outcome s e) ++ l) (records-append (outcome s e .state) es ys)
 
 pub length-records : (s : State) (es : List Event) → length (records s es) ≡ 4 * length es
 unfolding records recordOf

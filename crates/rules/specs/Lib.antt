@@ -1,5 +1,5 @@
 -- Document 01 as definitions, in reading order: Events to Printout are its sections or parts of them, over the words of Words.
--- From Table on stand statements about the rules: the traps avoided, the laws, and last the promise of service.
+-- From Table on stand statements about the rules: the traps avoided, the laws, and last the promise of service, also in the records of a sheet.
 pub mod Words
 pub mod Events
 pub mod Monitors
@@ -20,3 +20,4 @@ pub mod Avoided
 pub mod Laws
 pub mod Preference
 pub mod Service
+pub mod Records

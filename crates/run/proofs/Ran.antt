@@ -8,16 +8,11 @@ use lib.Seq.{take-at, drop-append-add, drop-drop}
 use Rattle.rules.specs.Events.{Event}
 use Rattle.rules.specs.State.{State}
 use Rattle.rules.specs.Registers.{fresh}
-use Rattle.rules.specs.Run.{outcome, run}
-use Rattle.rules.specs.Sheet.{settingsCount, eventsAt, eventsCount, settingsOf, eventsOf, sheetEvents, check, recordOf, records, front, over, outputAfter}
-use Rattle.rules.proofs.Sheets.{length-settings, length-records}
+use Rattle.rules.specs.Run.{run}
+use Rattle.rules.specs.Sheet.{settingsCount, eventsAt, eventsCount, settingsOf, eventsOf, sheetEvents, check, records, front, over, outputAfter}
+use Rattle.rules.proofs.Sheets.{length-settings, records-append, length-records}
 use Rattle.sheet.proofs.Parts.{part-all}
 use Rattle.run.proofs.Parts.{came-back}
-
-pub records-append : (s : State) (xs ys : List Event) → records s (xs ++ ys) ≡ records s xs ++ records (run s xs) ys
-unfolding records recordOf run outcome
-records-append s [] ys = refl
-records-append s (e ∷ es) ys = ap (λ (l : List ℕ). recordOf (outcome s e) ++ l) (records-append (outcome s e .state) es ys)
 
 -- a refused sheet gives nothing
 pub refused : (s : List ℕ) (room : ℕ) → (check s room ≡ 0 → ⊥) → front s room ≡ []

@@ -7,7 +7,7 @@ use Rattle.rules.specs.Reading.{qualifiedMask}
 use Rattle.inputs.specs.Bridge.{withSoak}
 use Rattle.tick.specs.Bridge.{stateOf}
 use Rattle.run.proofs.Parts.{four}
-use Rattle.run.proofs.Records.{record-is}
+use Rattle.rules.proofs.Sheets.{record-is}
 use Rattle.run.proofs.put_record.Statement.{statement}
 use Rattle.run.proofs.put_record.Tie as tie
 

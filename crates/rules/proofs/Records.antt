@@ -7,21 +7,19 @@ use native.Mathlib.Omega.{arith}
 use borrow.Author.Tests.{eq-eqb}
 use lib.ListN.{length, getD}
 use lib.Seq.{getD-append-add}
 use Rattle.rules.specs.Words.{if_then_else_, bit}
 use Rattle.rules.specs.Events.{Event}
 use Rattle.rules.specs.Pll.{holdover, freeRun, locked, is}
 use Rattle.rules.specs.State.{State, selected, mode, Ready}
 use Rattle.rules.specs.History.{held}
 use Rattle.rules.specs.Registers.{fresh}
 use Rattle.rules.specs.Reading.{stateByte, statusByte}
 use Rattle.rules.specs.Refusals.{refusal}
 use Rattle.rules.specs.Run.{next, run, outcome}
 use Rattle.rules.specs.Sheet.{sheetEvents, check, recordOf, records, front}
 use Rattle.rules.proofs.Promise.{run-append, promise}
-use Rattle.rules.proofs.Sheets.{length-records}
-use Rattle.run.specs.Service.{byteOf, RecordsPromise}
-use Rattle.run.proofs.Records.{record-is}
-use Rattle.run.proofs.Ran.{records-append}
+use Rattle.rules.proofs.Sheets.{record-is, records-append, length-records}
+use Rattle.rules.specs.Records.{byteOf, RecordsPromise}
 
 -- an element behind a list
 getD-behind : (l m : List ℕ) (n k : ℕ) → length l ≡ n → getD (l ++ m) (n + k) 0 ≡ getD m k 0
