@@ -74,11 +74,11 @@ impl Inspected {
         let (unit, model) = (&self.controller, &self.model);
         let wait = model.wait;
         unit.choice.selected == model.selected
-            && unit.choice.wait == wait.ticks
+            && unit.choice.wait == u64::from(wait.ticks)
             && (wait.ticks == 0 || unit.choice.aim == wait.best)
             && u64::from(unit.holding) == model.holdover_ticks
-            && unit.pll.mode == model.pll.state as u8
-            && unit.pll.lock == model.pll.lock_run
+            && unit.pll.mode == model.pll.state as u16
+            && unit.pll.lock == u16::from(model.pll.lock_run)
             && unit.pll.unlock == model.pll.unlock_run
     }
 }

@@ -12,7 +12,7 @@ use std::ops::Range;
 const SEED: u64 = 4;
 const SIZE: usize = size_of::<Unit>();
 /// The places of the bytes that are in no field.
-const PADDING: [usize; 7] = [1142, 1143, 1179, 1180, 1181, 1182, 1183];
+const PADDING: [usize; 9] = [1146, 1147, 1148, 1149, 1150, 1151, 1189, 1190, 1191];
 
 extern "C" {
     fn unit_event(unit: *mut u8, kind: u8, a: u8, b: u8, word: i32) -> u8;
@@ -111,9 +111,10 @@ fn places_of_fields(unit: &Unit) -> Vec<Range<usize>> {
     let rows = [level, decay, active, frequency, remainder, soak];
     places.extend(rows.map(|row| place(unit, row)));
     places.extend([sums, backup].map(|sums| place(unit, sums)));
-    places.extend([filled, count, backed, unlock].map(|number| place(unit, number)));
-    places.extend([last, command, selected, aim, mode, lock].map(|byte| place(unit, byte)));
-    places.extend([wait, holding].map(|ticks| place(unit, ticks)));
+    let numbers = [filled, count, backed, unlock, mode, lock];
+    places.extend(numbers.map(|number| place(unit, number)));
+    places.extend([last, command, selected, aim].map(|byte| place(unit, byte)));
+    places.extend([place(unit, wait), place(unit, holding)]);
     places.extend([place(unit, open), place(unit, regs)]);
     places
 }
