@@ -1,5 +1,7 @@
 -- Each arm decides the kind; the fields of a Hit are tested together.
-use mathlib.Core.Path.{refl}
+use mathlib.Core.Path.{_≡_, refl, sym, _∙_}
+use mathlib.Core.Bool.{true, false, _&&_}
+use lib.Dec.{eqb}
 use borrow.Author.Needs.{needs}
 use borrow.Author.Tests.{ne-eqb}
 use Rattle.fields.specs.Bridge.{wordlessOf}
@@ -12,11 +14,17 @@ returns c = rw (c .if1 .taken) refl
 
 returns-2 : tie.Need-returns-2
 unfolding wordlessOf
-returns-2 c = rw (c .before .before .if2 .taken, ← c .before .both .ensures, c .if3 .taken) refl
+returns-2 c =
+    let a = c .before .before .before .before .args in
+    let unused : (eqb (a .a) 0 && eqb (a .b) 0) ≡ true = sym (c .before .both .ensures) ∙ c .if3 .taken in
+    rw (c .before .before .if2 .taken, unused) refl
 
 returns-3 : tie.Need-returns-3
 unfolding wordlessOf
-returns-3 c = rw (c .before .before .if2 .taken, ← c .before .both .ensures, c .if3 .left) refl
+returns-3 c =
+    let a = c .before .before .before .before .args in
+    let used : (eqb (a .a) 0 && eqb (a .b) 0) ≡ false = sym (c .before .both .ensures) ∙ c .if3 .left in
+    rw (c .before .before .if2 .taken, used) refl
 
 returns-4 : tie.Need-returns-4
 unfolding wordlessOf
