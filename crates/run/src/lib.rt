@@ -92,7 +92,8 @@ fn run_events(
     let mut i = 0;
     while i < n {
         let at = 8 * i;
-        let Decoded::Event(e) = sheet::read_event(&part[at..]) else {
+        let end = at + 8;
+        let Decoded::Event(e) = sheet::read_event(&part[at..end]) else {
             return;
         };
         let s = unit::step(

@@ -68,7 +68,8 @@ fn events_good(part: &[u8], n: usize) -> bool
     let mut i = 0;
     while i < n {
         let at = 8 * i;
-        let Decoded::Event(_) = read_event(&part[at..]) else {
+        let end = at + 8;
+        let Decoded::Event(_) = read_event(&part[at..end]) else {
             return false;
         };
         i += 1;

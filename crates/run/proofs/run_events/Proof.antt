@@ -17,7 +17,7 @@ use Rattle.candidates.specs.Keys.{keysFrom}
 use Rattle.tick.specs.Bridge.{stateOf}
 use Rattle.tick.specs.declared.Core.{Core}
 use Rattle.fields.specs.Bridge.{decodedOf}
-use Rattle.sheet.proofs.Parts.{part-all}
+use Rattle.sheet.proofs.Parts.{part-all, event-part, event-length}
 use Rattle.run.proofs.Turns.{Going, going-start, going-put, going-done, events-more, events-stop}
 use Rattle.run.proofs.run_events.Statement.{statement}
 use Rattle.run.proofs.run_events.Tie as tie
@@ -46,8 +46,7 @@ reads-at c d h =
     let at-loop = c .before .before .before in
     let i = at-loop .loop .i in
     let part = now (at-loop .before .before .before .before .before .before .before .before .before .args .part) in
-    ap decode (sym (part-all (8 * i) part))
-    ∙ sym (c .read-event .ensures .0 (rw part-all (omega (arith, length-drop (8 * i) part)))) ∙ h
+    sym (event-part (8 * i) part) ∙ sym (c .read-event .ensures .0 (event-length (8 * i) part (omega arith))) ∙ h
 
 loop-holds : tie.Need-loop-holds Inv-loop μ-loop
 loop-holds c =
@@ -132,6 +131,7 @@ run-events-spec =
     Inv-loop
     μ-loop
     loop-holds
+    (omega arith)
     (omega arith)
     (omega arith)
     (omega arith)

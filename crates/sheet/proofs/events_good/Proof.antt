@@ -3,12 +3,12 @@ use Prim.Native.Nat.{ℕ, _≤_, _-_, _*_}
 use mathlib.Core.Path.{_≡_, sym, ap, _∙_}
 use native.Mathlib.Nat.{sub-zero}
 use native.Mathlib.Omega.{arith}
-use lib.ListN.{drop, length-drop}
+use lib.ListN.{drop}
 use borrow.Author.Needs.{needs}
 use Rattle.rules.specs.Sheet as rules
 use Rattle.rules.specs.Sheet.{bad, decode, allEvents}
 use Rattle.fields.specs.Bridge.{decodedOf}
-use Rattle.sheet.proofs.Parts.{part-all}
+use Rattle.sheet.proofs.Parts.{event-part, event-length}
 use Rattle.sheet.proofs.Turns.{good-more, good-stop}
 use Rattle.sheet.proofs.events_good.Statement.{statement}
 use denote.Ref.{now}
@@ -26,8 +26,7 @@ reads-at : (c : tie.After-read-event Inv-loop μ-loop) (d : rules.Decoded) → d
 reads-at c d h =
     let i = c .before .before .before .loop .i in
     let part = now (c .before .before .before .before .before .args .part) in
-    ap decode (sym (part-all (8 * i) part))
-    ∙ sym (c .read-event .ensures .0 (rw part-all (omega (arith, length-drop (8 * i) part)))) ∙ h
+    sym (event-part (8 * i) part) ∙ sym (c .read-event .ensures .0 (event-length (8 * i) part (omega arith))) ∙ h
 
 loop-holds : tie.Need-loop-holds Inv-loop μ-loop
 loop-holds c = (search needs, ap (λ (k : ℕ). allEvents k (now (c .before .args .part))) (sub-zero (c .before .args .n)))
@@ -59,6 +58,7 @@ events-good-spec =
     Inv-loop
     μ-loop
     loop-holds
+    (omega arith)
     (omega arith)
     (omega arith)
     (omega arith)
