@@ -21,7 +21,7 @@ use registers::setting;
 // One tick more than the longest delay: the wait stops here.
 const WAIT_LIMIT: u64 = 119_533;
 
-// What is selected, and the ticks waited for `aim`, the best that they count for.
+// What is selected, and the ticks waited for `aim`, the best that they count for. The wait is wider than it need be: see `Loop` of crates/pll.
 #[repr(C)]
 pub struct Choice {
     pub wait: u64,

@@ -77,7 +77,7 @@ pub fn tick(
     // step 3
     let driven = looped(lock, k.choice.selected, k.pll);
     alarmed(k.choice.selected, driven, remainder, soak);
-    // step 4: the soaks are read once, for the choice and for a record of this tick
+    // step 4, on a copy of the soaks: of a row that lies at hand eight are compared side by side
     let soaks = *soak;
     let choice = selection::chosen(&soaks, regs, keys, k.choice);
     let steered = pll::steered(

@@ -1,6 +1,6 @@
 -- Each arm decides the kind; the fields of a Hit are tested together.
 use mathlib.Core.Path.{_≡_, refl, sym, _∙_}
-use mathlib.Core.Bool.{true, false, _&&_}
+use mathlib.Core.Bool.{Bool, true, false, _&&_}
 use lib.Dec.{eqb}
 use borrow.Author.Needs.{needs}
 use borrow.Author.Tests.{ne-eqb}
@@ -12,19 +12,19 @@ returns : tie.Need-returns
 unfolding wordlessOf
 returns c = rw (c .if1 .taken) refl
 
+-- the test of a Hit's two fields is the rule's
+hit-test : (c : tie.After-both) (t : Bool) → c .both .result ≡ t
+    → let a = c .before .before .before .args in
+    (eqb (a .a) 0 && eqb (a .b) 0) ≡ t
+hit-test c t h = sym (c .both .ensures) ∙ h
+
 returns-2 : tie.Need-returns-2
 unfolding wordlessOf
-returns-2 c =
-    let a = c .before .before .before .before .args in
-    let unused : (eqb (a .a) 0 && eqb (a .b) 0) ≡ true = sym (c .before .both .ensures) ∙ c .if3 .taken in
-    rw (c .before .before .if2 .taken, unused) refl
+returns-2 c = rw (c .before .before .if2 .taken, hit-test (c .before) true (c .if3 .taken)) refl
 
 returns-3 : tie.Need-returns-3
 unfolding wordlessOf
-returns-3 c =
-    let a = c .before .before .before .before .args in
-    let used : (eqb (a .a) 0 && eqb (a .b) 0) ≡ false = sym (c .before .both .ensures) ∙ c .if3 .left in
-    rw (c .before .before .if2 .taken, used) refl
+returns-3 c = rw (c .before .before .if2 .taken, hit-test (c .before) false (c .if3 .left)) refl
 
 returns-4 : tie.Need-returns-4
 unfolding wordlessOf
