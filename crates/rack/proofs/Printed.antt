@@ -1,5 +1,5 @@
 -- What is printed for a sheet, where the records have room: 33,532 bytes are enough for every sheet that the other checks let through.
-use Prim.Native.Nat.{ℕ, _*_, _/_, _≤_, min}
+use Prim.Native.Nat.{ℕ, _*_, _/_, _≤_}
 use mathlib.Core.Path.{_≡_, refl, ap, sym, _∙_}
 use mathlib.Core.Bool.{_||_}
 use mathlib.Core.List.{List, _++_}
@@ -7,10 +7,12 @@ use native.Mathlib.Omega.{arith}
 use borrow.Author.Tests.{ltb-false, le-ltb, ne-eqb}
 use lib.Dec.{ltb}
 use lib.ListN.{length, drop, length-append}
-use Rattle.rules.specs.Sheet.{settingsCount, eventsAt, eventsCount, sheetEnd, recordCount, check, front}
+use Rattle.rules.specs.Sheet.{settingsCount, eventsAt, eventsCount, sheetEnd, recordCount, check, front, over}
 use Rattle.rules.specs.Printout.{recordsWord, refusedWord, headLine, recordLines, printed}
 use Rattle.rules.proofs.Tests.{by-test, or-false}
 use Rattle.rules.proofs.Sheets.{outputs}
+use Rattle.digits.specs.Places.{Puts}
+use Rattle.digits.proofs.Places.{from-front}
 use Rattle.text.specs.Text.{recordsText}
 use Rattle.rack.specs.Front.{Front}
 
@@ -49,10 +51,16 @@ printed-records s out room zero =
     let n = recordCount s in
     let f = front s (length out) in
     let said = outputs s out zero in
-    let count : min 8_383 (length f / 4) ≡ n = omega (arith, said .written, said .within, room) in
+    let count : length f / 4 ≡ n = omega (arith, said .written) in
     let number : check s (4 * n) ≡ 0 = sym (room-enough s) ∙ ap (check s) (sym room) ∙ zero in
     let same : f ≡ front s (4 * n) = ap (front s) room ∙ same-front s in
     rw (number) (ap (λ (k : ℕ). headLine recordsWord k ++ recordLines k 0 f) count ∙ ap (λ (l : List ℕ). headLine recordsWord n ++ recordLines n 0 l) same)
+
+-- a text that is put at the front, where there is room for it; it is the one that is to be printed
+pub at-front : {text wanted before after : List ℕ} {n : ℕ} → text ≡ wanted → length text ≤ length before → Puts text 0 before n after → Front wanted before n after
+at-front {text} {wanted} {before} e room p =
+    let f = from-front room p in
+    record { count = f .0 ∙ ap length e; left = f .1 ∙ ap (λ (l : List ℕ). over l before) e }
 
 -- a text that stands in front of a list stands within it
 pub front-within : (text before after : List ℕ) (n : ℕ) → Front text before n after → n ≤ length after

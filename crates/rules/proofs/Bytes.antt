@@ -1,5 +1,5 @@
 -- Every register reads as a byte in a lawful state: a lemma for each kind of register.
-use Prim.Native.Nat.{ℕ, zero, suc, _^_, _≤_, _<_}
+use Prim.Native.Nat.{ℕ, zero, suc, _/_, _^_, _≤_, _<_}
 use mathlib.Core.Bool.{Bool, _||_}
 use native.Mathlib.Omega.{arith}
 use lib.Dec.{eqb}
@@ -54,15 +54,15 @@ available-byte : (s : State) → availableMask s ≤ 255
 unfolding availableMask
 available-byte s = omega (arith, mask-lt (available (s .settings) (s .inputs)) 8)
 
--- 0x48, the state and what is selected, is a byte
-state-byte : (s : State) → stateByte s ≤ 255
+-- 0x48, the state and what is selected: the upper digit is the state's number
+pub state-digit : (s : State) → stateByte s / 16 ≤ 5
 unfolding stateByte
-state-byte s = omega (arith, mode-le (mode s))
+state-digit s = omega (arith, mode-le (mode s))
 
--- 0x49, alarms and Ready, is a byte: it has four bits
-status-byte : (s : State) → statusByte s ≤ 255
+-- 0x49, alarms and Ready, has four bits
+pub status-bits : (s : State) → statusByte s < 16
 unfolding statusByte
-status-byte s =
+status-bits s =
     omega (
       arith,
       if-sum (is holdover (mode s) || is freeRun (mode s)) 1 0,
@@ -88,8 +88,8 @@ shown-byte s a =
     if-le (eqb a 0x27) (hours-byte s)
     (if-le (eqb a 0x46) (qualified-byte s)
     (if-le (eqb a 0x47) (available-byte s)
-    (if-le (eqb a 0x48) (state-byte s)
-    (if-le (eqb a 0x49) (status-byte s)
+    (if-le (eqb a 0x48) (omega (arith, state-digit s))
+    (if-le (eqb a 0x49) (omega (arith, status-bits s))
     (if-le (eqb a 0x4a) (value-byte s 0)
     (if-le (eqb a 0x4b) (value-byte s 1)
     (if-le (eqb a 0x4c) (value-byte s 2)

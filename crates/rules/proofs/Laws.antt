@@ -7,7 +7,9 @@ use Rattle.rules.proofs.Best.{best-candidate}
 use Rattle.rules.proofs.Chosen.{chosen-selectable, judged, non-revertive, wait-rule}
 use Rattle.rules.proofs.Invariants.{invariants, saturation}
 use Rattle.rules.proofs.Bytes.{bytes}
-use Rattle.rules.proofs.Sheets.{outputs, output-kept, decimal-digits}
+use Rattle.rules.proofs.Digits.{decimal-digits}
+use Rattle.rules.proofs.Sheets.{outputs, output-kept}
+use Rattle.rules.proofs.RecordBytes.{each-record}
 use Rattle.rules.proofs.Refusals.{refused, not-ready, twos-complement}
 
 pub laws : Laws
@@ -31,5 +33,6 @@ laws =
       bytes = bytes;
       outputs = outputs;
       outputKept = output-kept;
+      eachRecord = each-record;
       decimal = decimal-digits;
     }

@@ -15,7 +15,10 @@ pub mod SoundLoop
 pub mod SoundHistory
 pub mod Invariants
 pub mod Bytes
+pub mod Digits
+pub mod Parts
 pub mod Sheets
+pub mod RecordBytes
 pub mod Refusals
 pub mod Laws
 pub mod Progress

@@ -1,23 +1,21 @@
--- Run sheets: what a run writes, and the digits of a number.
-use Prim.Native.Nat.{ℕ, zero, suc, _+_, _-_, _*_, _/_, _%_, _≤_, _<_}
-use mathlib.Core.Path.{_≡_, refl, ap, _∙_}
+-- Run sheets: what a run writes.
+use Prim.Native.Nat.{ℕ, zero, suc, _+_, _*_, _≤_}
+use mathlib.Core.Path.{_≡_, refl, ap, sym, _∙_}
 use mathlib.Core.Bool.{true, false, _||_, false≢true}
 use mathlib.Core.List.{List, [], _∷_, _++_}
 use native.Mathlib.Omega.{arith}
 use lib.Dec.{ltb}
-use lib.ListN.{length, drop, length-append, length-drop}
-use borrow.Author.Tests.{ltb-true, ltb-false, lt-ltb, eq-eqb, ne-eqb, not-false}
+use lib.ListN.{length, take, drop, length-append, length-drop}
+use lib.Seq.{take-at}
+use borrow.Author.Tests.{ltb-false, eq-eqb, ne-eqb, not-false}
 use Rattle.rules.specs.Events.{Event}
 use Rattle.rules.specs.State.{State}
 use Rattle.rules.specs.Registers.{fresh, registers, place, inMap, register, readOnly}
 use Rattle.rules.specs.Reading.{qualifiedMask, stateByte, statusByte, shown, content, read}
 use Rattle.rules.specs.Run.{outcome, run}
 use Rattle.rules.specs.Sheet.{Decoded, event, bad, decode, settingsCount, eventsAt, eventsCount, sheetEnd, settingsOf, before, eventsOf, sheetEvents, isEvent, allEvents, recordCount, check, recordOf, records, front, outputAfter}
-use Rattle.rules.specs.Printout.{digit, decimalIn, decimal}
-use Rattle.rules.specs.Laws.{Outputs, OutputKept, number, Decimal}
-use Rattle.rules.proofs.Tests.{if-case, and-left, and-right, unrefused}
-
--- ---- the output
+use Rattle.rules.specs.Laws.{Outputs, OutputKept}
+use Rattle.rules.proofs.Tests.{and-left, and-right, unrefused}
 
 pub length-settings : (k : ℕ) (l : List ℕ) → length (settingsOf k l) ≡ k
 unfolding settingsOf
@@ -75,6 +73,10 @@ length-sheet s e =
     length-append (settingsOf (settingsCount s) (drop 2 s)) (eventsOf (eventsCount s) (drop (eventsAt s + 2) s))
     ∙ omega (arith, length-settings (settingsCount s) (drop 2 s), length-events (eventsCount s) (drop (eventsAt s + 2) s) e)
 
+-- a sheet that runs gives as many events as records
+pub length-run : (s : List ℕ) (room : ℕ) → check s room ≡ 0 → length (sheetEvents s) ≡ recordCount s
+length-run s room e = length-sheet s (passed s room e .events)
+
 pub outputs : Outputs
 unfolding front outputAfter
 outputs s output e =
@@ -88,32 +90,15 @@ outputs s output e =
     ok = passed s (length output) e
 
     front-length : length (front s (length output)) ≡ 4 * recordCount s
-    front-length = rw (eq-eqb (check s (length output)) 0 e) (length-records fresh (sheetEvents s) ∙ ap (λ n. 4 * n) (length-sheet s (ok .events)))
+    front-length = rw (eq-eqb (check s (length output)) 0 e) (length-records fresh (sheetEvents s) ∙ ap (λ n. 4 * n) (length-run s (length output) e))
 
 pub output-kept : OutputKept
 unfolding front outputAfter
 output-kept s output n = rw (ne-eqb (check s (length output)) 0 n) refl
 
--- ---- digits
-
--- one digit more at the end
-number-snoc : (n : ℕ) (ds : List ℕ) (d : ℕ) → number n (ds ++ d ∷ []) ≡ 10 * number n ds + (d - 48)
-unfolding number
-number-snoc n [] d = refl
-number-snoc n (x ∷ ds) d = number-snoc (10 * n + (x - 48)) ds d
-
-digit-value : (d : ℕ) → d < 10 → digit d - 48 ≡ d
-unfolding digit
-digit-value d h = rw (lt-ltb d 10 h) (omega arith)
-
-decimal-in : (fuel n : ℕ) → n < fuel → number 0 (decimalIn fuel n) ≡ n
-unfolding decimalIn number
-decimal-in zero n h = omega arith
-decimal-in (suc fuel) n h =
-    if-case (λ ds. number 0 ds ≡ n) (ltb n 10) (λ t. omega (arith, digit-value n (ltb-true n 10 t)))
-    (λ t. number-snoc 0 (decimalIn fuel (n / 10)) (digit (n % 10))
-    ∙ omega (arith, decimal-in fuel (n / 10) (omega (arith, ltb-false n 10 t)), digit-value (n % 10) (omega arith)))
-
-pub decimal-digits : Decimal
-unfolding decimal
-decimal-digits n = decimal-in (n + 1) n (omega arith)
+-- the written front part, taken from the output
+pub front-part : (s output : List ℕ) (n : ℕ) → n ≡ length (front s (length output)) → take n (outputAfter s output) ≡ front s (length output)
+unfolding outputAfter
+front-part s output n e =
+    let f = front s (length output) in
+    take-at f (drop (length f) output) n (sym e)

@@ -7,7 +7,7 @@ use mathlib.Core.Bool.{true, false, _&&_}
 use mathlib.Core.List.{List, [], _∷_}
 use lib.IntN.{ℤ, pos, natAbs, _+ℤ_, _*ℤ_}
 use lib.Signed.{_≤ℤ_}
-use lib.ListN.{length}
+use lib.ListN.{length, getD, drop}
 use Rattle.rules.specs.Words.{if_then_else_, isInput, isTracked}
 use Rattle.rules.specs.Events.{Event, sampleLimit, isTick}
 use Rattle.rules.specs.Monitors.{Bucket, bucketOf, Input, fullSoak, qualified, alarmTicks}
@@ -208,6 +208,15 @@ Outputs = (s output : List ℕ) → check s (length output) ≡ 0 → Fits s out
 abbrev pub OutputKept : Type 0
 OutputKept = (s output : List ℕ) → (check s (length output) ≡ 0 → ⊥) → outputAfter s output ≡ output
 
+-- a record, as it stands at the front of a list: its refusal is at most 8, its state 0 to 5, and its 0x49 has four bits
+pub record RecordBytes (r : List ℕ) : Type 0 where
+  pub refusal-le : getD r 0 0 ≤ 8
+  pub state-le : getD r 1 0 / 16 ≤ 5
+  pub status-lt : getD r 3 0 < 16
+
+abbrev pub EachRecord : Type 0
+EachRecord = (s : List ℕ) (room i : ℕ) → check s room ≡ 0 → i < recordCount s → RecordBytes (drop (4 * i) (front s room))
+
 -- the digits of a number read back as it is
 unfoldable pub number : ℕ → List ℕ → ℕ
 number n [] = n
@@ -237,4 +246,5 @@ pub record Laws : Type 0 where
   pub bytes : Bytes
   pub outputs : Outputs
   pub outputKept : OutputKept
+  pub eachRecord : EachRecord
   pub decimal : Decimal

@@ -11,8 +11,7 @@ use Rattle.rules.specs.Registers.{fresh}
 use Rattle.rules.specs.Run.{run}
 use Rattle.rules.specs.Sheet.{settingsCount, eventsAt, eventsCount, settingsOf, eventsOf, sheetEvents, check, records, front, over, outputAfter}
 use Rattle.rules.proofs.Sheets.{length-settings, records-append, length-records}
-use Rattle.sheet.proofs.Parts.{part-all}
-use Rattle.run.proofs.Parts.{came-back}
+use Rattle.rules.proofs.Parts.{part-all, came-back}
 
 -- a refused sheet gives nothing
 pub refused : (s : List ℕ) (room : ℕ) → (check s room ≡ 0 → ⊥) → front s room ≡ []

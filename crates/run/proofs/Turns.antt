@@ -11,7 +11,7 @@ use Rattle.rules.specs.State.{State}
 use Rattle.rules.specs.Run.{Outcome, outcome}
 use Rattle.rules.specs.Sheet.{event, bad, decode, settingsOf, before, eventsOf, recordOf, records, over}
 use Rattle.sheet.proofs.Turns.{one-less, next}
-use Rattle.run.proofs.Parts.{came-back}
+use Rattle.rules.proofs.Parts.{came-back}
 
 module _ (n i : ℕ) (l : List ℕ) (h : i < n) where
   pub events-more : (e : Event) → decode (drop (8 * i) l) ≡ event e → eventsOf (n - i) (drop (8 * i) l) ≡ e ∷ eventsOf (n - (i + 1)) (drop (8 * (i + 1)) l)

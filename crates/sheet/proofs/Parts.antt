@@ -1,15 +1,11 @@
--- Parts of a list: from a place to the end, and the eight bytes of an event.
+-- The eight bytes of an event, a part of a list.
 use Prim.Native.Nat.{ℕ, _-_, _+_, _≤_, _<_}
 use mathlib.Core.Path.{_≡_}
 use mathlib.Core.List.{List}
 use native.Mathlib.Omega.{arith}
 use lib.ListN.{length, take, drop, getD, length-take, length-drop}
-use lib.Seq.{take-all, getD-take}
+use lib.Seq.{getD-take}
 use Rattle.rules.specs.Sheet.{decode}
-
--- the part from a to the end is what drop gives
-pub part-all : (a : ℕ) (l : List ℕ) → take (length l - a) (drop a l) ≡ drop a l
-part-all a l = take-all (length l - a) (drop a l) (omega (arith, length-drop a l))
 
 -- what decodes of the eight bytes from a place on is what decodes there
 pub event-part : (a : ℕ) (l : List ℕ) → decode (take (a + 8 - a) (drop a l)) ≡ decode (drop a l)

@@ -1,11 +1,11 @@
 -- The text of a run's records.
-use Prim.Native.Nat.{ℕ, _/_, min}
+use Prim.Native.Nat.{ℕ, _/_}
 use mathlib.Core.List.{List, _++_}
 use lib.ListN.{length}
 use Rattle.rules.specs.Printout.{recordsWord, headLine, recordLines}
 
--- Each record has 4 bytes. 8,383 is the most that a sheet gives: 256 settings and 8,127 events.
+-- each record has 4 bytes
 unfoldable pub recordsText : List ℕ → List ℕ
 recordsText records =
-    let n = min 8_383 (length records / 4) in
+    let n = length records / 4 in
     headLine recordsWord n ++ recordLines n 0 records

@@ -1,8 +1,6 @@
 -- One digit, or those of a tenth and the last one. The measure is the number.
 use Prim.Native.Nat.{ℕ, _<_}
-use mathlib.Core.Path.{ap}
 use native.Mathlib.Omega.{arith}
-use lib.ListN.{length}
 use borrow.Author.Needs.{needs}
 use borrow.Fn.Kinds.{In}
 use borrow.Fn.PlainCycle.{Measures, is, falls, and}
@@ -11,7 +9,7 @@ use Rattle.digits.proofs.digit.Reads as digit
 use Rattle.digits.proofs.put_decimal.Reads as put-decimal
 use Rattle.digits.proofs.put_decimal.Kinds as kinds
 use Rattle.digits.proofs.Places.{then}
-use Rattle.digits.proofs.Digits.{one-digit, last-digit, one-more}
+use Rattle.rules.proofs.Digits.{one-digit, last-digit}
 use Rattle.digits.proofs.+put_decimal.{statement}
 use Rattle.digits.proofs.+put_decimal.Lts-put_decimal as lts
 use Rattle.digits.proofs.+put_decimal.Tie.{close}
@@ -32,14 +30,18 @@ pub +put-decimal-spec : {M : Type 1} → statement M
     (λ c. omega arith)
     (λ c κs. omega arith)
     (search needs)
-    (λ c room. rw (one-digit _ (c .before .before .before .if1 .taken), ← (c .before .before .digit .ensures))
-    (c .put .ensures (omega (arith, ap length (one-digit _ (c .before .before .before .if1 .taken))))))
+    (search needs)
+    (λ c.
+    let put = c .before .before in
+    let digit = put .before .before in
+    rw (one-digit _ (digit .before .if1 .taken), ← (digit .digit .ensures)) (put .put .ensures))
     (λ c κs. (omega arith, tt))
     (λ c. omega arith)
     (λ c κs. omega arith)
     (search needs)
-    (λ c room.
-    let more = one-more _ (c .before .before .before .before .before .if1 .left) in
-    let tenth = c .before .before .before .put-decimal .ensures (omega arith) in
-    rw (last-digit _ (c .before .before .before .before .before .if1 .left), ← (c .before .before .digit2 .ensures))
-    (then tenth (c .put2 .ensures (omega arith))))
+    (search needs)
+    (λ c.
+    let put = c .before .before in
+    let digit = put .before .before in
+    let tenth = digit .before .before .before in
+    rw (last-digit _ (tenth .before .before .if1 .left), ← (digit .digit2 .ensures)) (then (tenth .put-decimal .ensures) (put .put2 .ensures)))

@@ -1,10 +1,9 @@
 -- The front part of what `run_into` left, as long as it says.
 use mathlib.Core.Path.{_≡_, refl, ap, sym, _∙_}
-use lib.ListN.{length, take, drop}
-use lib.Seq.{take-at}
+use lib.ListN.{length, take}
 use borrow.Author.Needs.{needs}
 use Rattle.rules.specs.Sheet as rules
-use Rattle.rules.specs.Sheet.{outputAfter}
+use Rattle.rules.proofs.Sheets.{front-part}
 use Rattle.run.proofs.run.Statement.{statement}
 use denote.Ref.{now}
 use Rattle.run.proofs.run.Tie as tie
@@ -12,12 +11,9 @@ use Rattle.run.proofs.run.Tie as tie
 front : (c : tie.After-run-into)
     → let a = c .before .before .before .before .args in
     take (c .run-into .result) (c .run-into .last .1 .0) ≡ rules.front (now (a .sheet)) (length (now (a .out)))
-unfolding outputAfter
 front c =
     let a = c .before .before .before .before .args in
-    let r = rules.front (now (a .sheet)) (length (now (a .out))) in
-    ap (take (c .run-into .result)) (c .run-into .ensures .1)
-    ∙ take-at r (drop (length r) (now (a .out))) (c .run-into .result) (sym (c .run-into .ensures .0))
+    ap (take (c .run-into .result)) (c .run-into .ensures .1) ∙ front-part (now (a .sheet)) (now (a .out)) (c .run-into .result) (c .run-into .ensures .0)
 
 slice-aggregate-result : tie.Need-slice-aggregate-result
 slice-aggregate-result c = c .before .before .before .run-into .ensures .0 ∙ sym (ap length (front (c .before .before .before)))

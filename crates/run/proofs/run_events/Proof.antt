@@ -17,7 +17,8 @@ use Rattle.candidates.specs.Keys.{keysFrom}
 use Rattle.tick.specs.Bridge.{stateOf}
 use Rattle.tick.specs.declared.Core.{Core}
 use Rattle.fields.specs.Bridge.{decodedOf}
-use Rattle.sheet.proofs.Parts.{part-all, event-part, event-length}
+use Rattle.rules.proofs.Parts.{part-all}
+use Rattle.sheet.proofs.Parts.{event-part, event-length}
 use Rattle.run.proofs.Turns.{Going, going-start, going-put, going-done, events-more, events-stop}
 use Rattle.run.proofs.run_events.Statement.{statement}
 use Rattle.run.proofs.run_events.Tie as tie

@@ -8,7 +8,7 @@ use borrow.Author.Needs.{needs}
 use Rattle.rules.specs.Sheet.{settingsCount, eventsAt, eventsCount, sheetEnd, recordCount, check, over, outputAfter}
 use Rattle.rules.proofs.Sheets.{outputs}
 use Rattle.sheet.proofs.Numbers.{runs}
-use Rattle.sheet.proofs.Parts.{part-all}
+use Rattle.rules.proofs.Parts.{part-all}
 use Rattle.tick.specs.Bridge.{stateOf}
 use Rattle.tick.specs.declared.Core.{Core}
 use Rattle.run.proofs.Ran.{refused, all-written}

@@ -14,7 +14,7 @@ use Rattle.inputs.specs.Bridge.{withSoak}
 use Rattle.inputs.specs.declared.Monitors.{Monitors}
 use Rattle.candidates.specs.Keys.{keysFrom}
 use Rattle.tick.specs.Bridge.{stateOf}
-use Rattle.sheet.proofs.Parts.{part-all}
+use Rattle.rules.proofs.Parts.{part-all}
 use Rattle.run.proofs.Turns.{Going, going-start, going-put, going-done, settings-more}
 use Rattle.run.proofs.run_settings.Statement.{statement}
 use Rattle.run.proofs.run_settings.Tie as tie

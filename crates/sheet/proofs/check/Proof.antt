@@ -8,7 +8,7 @@ use borrow.Author.Needs.{needs}
 use denote.Ref.{now}
 use Rattle.rules.specs.Sheet.{settingsCount, eventsAt, eventsCount, sheetEnd, allEvents, recordCount}
 use Rattle.sheet.proofs.Numbers.{Sized, too-long, too-many, ends-early, ends-late, has-bad, no-room, will-run}
-use Rattle.sheet.proofs.Parts.{part-all}
+use Rattle.rules.proofs.Parts.{part-all}
 use Rattle.sheet.proofs.check.Statement.{statement}
 use Rattle.sheet.proofs.check.Tie as tie
 
