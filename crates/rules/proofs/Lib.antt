@@ -17,8 +17,10 @@ pub mod Invariants
 pub mod Bytes
 pub mod Digits
 pub mod Parts
+pub mod Pages
 pub mod Sheets
 pub mod RecordBytes
+pub mod Prints
 pub mod Refusals
 pub mod Laws
 pub mod Progress

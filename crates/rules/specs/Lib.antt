@@ -15,6 +15,7 @@ pub mod Refusals
 pub mod Run
 pub mod Sheet
 pub mod Printout
+pub mod Pages
 pub mod Table
 pub mod Avoided
 pub mod Laws
