@@ -1,0 +1,2 @@
+-- What the contracts of the pages cite.
+pub mod Output

@@ -1,0 +1,104 @@
+// The pages of a run's records (document 02, #101): lines of 27 columns, 50 to a page, the last page filled.
+// Each contract is an equation with a rule of crates/rules/specs/Pages.antt; the rule is named above the function. `Puts` says that a text is put at a place.
+ghost use mathlib.Core.Path.{_≡_};
+ghost use mathlib.Core.List.{[], _∷_, _++_};
+ghost use Prim.Native.Nat.{_+_, _*_, _≤_, _<_};
+ghost use lib.ListN.{length, drop};
+ghost use Rattle.rules.specs.Printout.{lineFeed, decimal};
+ghost use Rattle.rules.specs.Pages.{leftIn, rightIn, stateName, recordColumns, pageCount, pageLine};
+ghost use Rattle.digits.specs.Places.{Puts};
+ghost use Rattle.pages.specs.Output.{laidOut};
+use digits::put;
+use digits::put_decimal;
+use digits::put_hexadecimal;
+use digits::put_word;
+use digits::wide;
+
+// ---- columns
+
+// The rule `rightIn`, of a number's digits: the last bytes of so many blanks and the digits. 25 bytes hold 5 blanks and the longest number.
+fn put_right(n: usize, width: usize, at: usize, out: &mut [u8]) -> usize
+    requires { ⌜ width ≤ 5 ⌝ }
+    ensures { λ r. ⌜ Puts (rightIn width (decimal n)) at (now (out .entry)) r (now (out .exit)) ⌝ }
+{
+    let mut columns = [b' '; 25];
+    let end = put_decimal(n, width, &mut columns);
+    let start = end - width;
+    put_word(&columns[start..end], at, out)
+}
+
+// The rules `leftIn` and `stateName`: the name of a state in 12 columns.
+fn name_of(state: u8) -> [u8; 12]
+    ensures { λ r. ⌜ r ≡ leftIn 12 (stateName state) ⌝ }
+{
+    match state {
+        0 => *b"Free Run    ",
+        1 => *b"Holdover    ",
+        2 => *b"Pre-locked  ",
+        3 => *b"Locked      ",
+        4 => *b"Loss of lock",
+        5 => *b"Pre-locked 2",
+        _ => *b"            ",
+    }
+}
+
+// ---- lines, each at the front of a part of the output
+
+// The rule `recordColumns` and a line feed, of the record with this index among the records.
+fn put_record(index: usize, records: &[u8], out: &mut [u8]) -> usize
+    requires { ⌜ 4 * index + 3 < length (now records) ⌝ }
+    ensures { λ r. ⌜ Puts (recordColumns index (drop (4 * index) (now (records .entry))) ++ lineFeed ∷ []) 0 (now (out .entry)) r (now (out .exit)) ⌝ }
+{
+    let place = 4 * index;
+    let refusal = wide(records[place]);
+    let state = records[place + 1];
+    let status = records[place + 3];
+    let mut next = put_right(index, 5, 0, out);
+    next = put(b' ', next, out);
+    next = put_word(&name_of(state / 16), next, out);
+    next = put(b' ', next, out);
+    next = put_right(wide(state % 16), 2, next, out);
+    next = put(b' ', next, out);
+    next = put_right(refusal, 2, next, out);
+    next = put_hexadecimal(status, next, out);
+    put(b'\n', next, out)
+}
+
+// The rule `pageLine`.
+fn put_line(n: usize, records: &[u8], j: usize, out: &mut [u8]) -> usize
+    requires { ⌜ 4 * n ≤ length (now records) ⌝ }
+    ensures { λ r. ⌜ Puts (pageLine n (now (records .entry)) j) 0 (now (out .entry)) r (now (out .exit)) ⌝ }
+{
+    if j < n {
+        return put_record(j, records, out);
+    }
+    let end = put_word(b"                           ", 0, out);
+    put(b'\n', end, out)
+}
+
+// ---- pages
+
+// The rule `pageCount`.
+pub fn page_count(n: usize) -> usize
+    ensures { λ r. ⌜ r ≡ pageCount n ⌝ }
+{
+    if n % 50 == 0 { n / 50 } else { n / 50 + 1 }
+}
+
+// The rule `pagesOf`: the pages of all records over the front of the output, if it has room for them.
+pub fn lay_out(records: &[u8], out: &mut [u8])
+    ensures { λ _. ⌜ now (out .exit) ≡ laidOut (now (records .entry)) (now (out .entry)) ⌝ }
+{
+    let n = records.len() / 4;
+    let count = page_count(n);
+    if out.len() / 1400 < count {
+        return;
+    }
+    let lines = 50 * count;
+    let mut j = 0;
+    while j < lines {
+        let place = 28 * j;
+        put_line(n, records, j, &mut out[place..]);
+        j += 1;
+    }
+}
