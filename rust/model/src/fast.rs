@@ -3,6 +3,10 @@
 //! a ring, sheets run in place with nothing allocated. The rules are those of
 //! the plain model, which tells them; its answers must be the same.
 
+mod pages;
+
+pub use pages::print;
+
 use crate::event::Event;
 use crate::history::{BLOCKS_FOR_READY, BLOCKS_KEPT, SAMPLES_PER_BLOCK};
 use crate::monitors::{LOCK_ALARM_TICKS, SOAK_TICKS};
@@ -405,10 +409,17 @@ pub fn check(sheet: &[u8], output_len: usize) -> u8 {
 
 /// As the plain model's.
 pub fn run(sheet: &[u8], output: &mut [u8]) -> usize {
-    let (settings, events) = match sections_with_room(sheet, output.len()) {
-        Ok(sections) => sections,
-        Err(_) => return 0,
-    };
+    match sections_with_room(sheet, output.len()) {
+        Ok(sections) => run_sections(sections, output),
+        Err(_) => 0,
+    }
+}
+
+/// The bytes of a sheet's settings and of its events.
+type Sections<'a> = (&'a [u8], &'a [u8]);
+
+/// Runs a sheet that was checked: how many bytes it wrote.
+fn run_sections((settings, events): Sections, output: &mut [u8]) -> usize {
     let settings = settings.chunks_exact(BYTES_PER_SETTING);
     let events = events.chunks_exact(BYTES_PER_EVENT);
     let records = settings.len() + events.len();
@@ -423,16 +434,20 @@ pub fn run(sheet: &[u8], output: &mut [u8]) -> usize {
     BYTES_PER_RECORD * records
 }
 
-fn sections_with_room(sheet: &[u8], output_len: usize) -> Result<(&[u8], &[u8]), Refusal> {
-    let (settings, events) = sheet::sections(sheet)?;
-    let settings_count = settings.len() / BYTES_PER_SETTING;
-    let mut events_bytes = events.chunks_exact(BYTES_PER_EVENT);
-    let records = settings_count + events_bytes.len();
-    if !events_bytes.all(|bytes| sheet::event(bytes).is_some()) {
+fn sections_with_room(sheet: &[u8], output_len: usize) -> Result<Sections<'_>, Refusal> {
+    let sections = sheet::sections(sheet)?;
+    let (_, events) = sections;
+    let mut events = events.chunks_exact(BYTES_PER_EVENT);
+    if !events.all(|bytes| sheet::event(bytes).is_some()) {
         return Err(Refusal::NoEvent);
     }
-    if output_len < BYTES_PER_RECORD * records {
+    if output_len < BYTES_PER_RECORD * record_count(sections) {
         return Err(Refusal::OutputTooShort);
     }
-    Ok((settings, events))
+    Ok(sections)
+}
+
+/// How many records a sheet gives.
+fn record_count((settings, events): Sections) -> usize {
+    settings.len() / BYTES_PER_SETTING + events.len() / BYTES_PER_EVENT
 }

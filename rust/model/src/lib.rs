@@ -1,6 +1,7 @@
 //! The reference controller of the eight-input timing unit, written plainly
-//! from document 01. It is compared with the real controller; it shares no
-//! code with it. Sentences in quotation marks are document 01's.
+//! from document 01 and from the requests of document 02. It is compared with
+//! the real controller; it shares no code with it. Sentences in quotation marks
+//! are document 01's, in `pages` document 02's.
 
 #![forbid(unsafe_code)]
 
@@ -8,6 +9,7 @@ mod event;
 pub mod fast;
 mod history;
 mod monitors;
+mod pages;
 mod pll;
 mod reading;
 mod refusal;
@@ -19,6 +21,7 @@ mod unit;
 pub use event::Event;
 pub use history::{History, BLOCKS_FOR_READY, BLOCKS_KEPT, SAMPLES_PER_BLOCK};
 pub use monitors::{Input, LOCK_ALARM_TICKS, SOAK_TICKS};
+pub use pages::{pages, pages_of, print, BYTES_PER_PAGE, COLUMNS, LINES_PER_PAGE};
 pub use pll::{Pll, State, LOCK_TICKS, UNLOCK_TICKS};
 pub use reading::TICKS_PER_HOUR;
 pub use refusal::Refusal;

@@ -27,7 +27,7 @@ impl State {
     ];
 
     /// As document 01 calls it.
-    pub fn name(self) -> &'static str {
+    pub const fn name(self) -> &'static str {
         match self {
             State::FreeRun => "Free Run",
             State::Holdover => "Holdover",

@@ -27,7 +27,8 @@ pub enum Refusal {
     BytesAfterEvents = 11,
     /// "kind over 3, lock over 1, or unused field not 0"
     NoEvent = 12,
-    /// "output under 4 bytes a record"
+    /// "output under 4 bytes a record"; in document 02, #101: "a page output
+    /// under 1,400 bytes a page"
     OutputTooShort = 13,
 }
 

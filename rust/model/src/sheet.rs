@@ -38,11 +38,16 @@ pub fn run(sheet: &[u8], output: &mut [u8]) -> usize {
     match events_with_room(sheet, output.len()) {
         Ok(events) => {
             let bytes = records_of(&events).concat();
-            output[..bytes.len()].copy_from_slice(&bytes);
+            write_front(output, &bytes);
             bytes.len()
         }
         Err(_) => 0,
     }
+}
+
+/// Writes the front part of an output that has room for it.
+pub(crate) fn write_front(output: &mut [u8], bytes: &[u8]) {
+    output[..bytes.len()].copy_from_slice(bytes);
 }
 
 /// The records of a sheet whose output has room for them.
@@ -89,7 +94,7 @@ pub fn sheet_of(settings: &[(u8, u8)], events: &[Event]) -> Vec<u8> {
 
 /// "Settings run as writes on a fresh unit, then the events. Each gives a
 /// 4-byte record"
-fn records_of(events: &[Event]) -> Vec<Record> {
+pub(crate) fn records_of(events: &[Event]) -> Vec<Record> {
     let mut unit = Unit::fresh();
     let record = |event| {
         let refusal = unit.event(event);
@@ -101,7 +106,7 @@ fn records_of(events: &[Event]) -> Vec<Record> {
 
 /// The settings and events of a sheet, or the first of 9 to 13 that holds:
 /// "Checked in number order".
-fn events_with_room(sheet: &[u8], output_len: usize) -> Result<Vec<Event>, Refusal> {
+pub(crate) fn events_with_room(sheet: &[u8], output_len: usize) -> Result<Vec<Event>, Refusal> {
     let events = events(sheet)?;
     if output_len < BYTES_PER_RECORD * events.len() {
         return Err(Refusal::OutputTooShort);
@@ -163,7 +168,9 @@ pub(crate) fn setting(bytes: &[u8]) -> Option<Event> {
 ///
 /// Reading: an input not 1 to 8 or a sample out of range is no fault of the
 /// sheet; the event's record has 6 or 7.
-#[inline]
+///
+/// Always compiled into its callers: the tuned model's speed hangs on it.
+#[inline(always)]
 pub(crate) fn event(bytes: &[u8]) -> Option<Event> {
     let word = i32::from_le_bytes([bytes[4], bytes[5], bytes[6], bytes[7]]);
     match bytes[3] {

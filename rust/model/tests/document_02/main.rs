@@ -1,0 +1,4 @@
+//! The model against document 02: the sentences of each request, and the
+//! boundaries of each rule.
+
+mod rack_printout;
