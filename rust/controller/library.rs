@@ -15,7 +15,7 @@ pub fn link(name: &str) {
     if !library.exists() {
         eprintln!(
             "{} is missing. The repository's command bin/cases makes it: it proves the controller \
-             and builds both libraries. A folder elsewhere is named by CONTROLLER_LIB_DIR.",
+             and builds all libraries. A folder elsewhere is named by CONTROLLER_LIB_DIR.",
             library.display()
         );
         exit(1);

@@ -17,7 +17,7 @@ pub const STATES: [&str; 6] = [
     "Pre-locked 2",
 ];
 
-/// "Turned down", from 1 on.
+/// "Turned down", from 1 on; what 13 also means is document 02's, #101.
 const REASONS: [&str; 13] = [
     "address not in the map",
     "write to a read-only register",
@@ -31,7 +31,7 @@ const REASONS: [&str; 13] = [
     "sheet ends early",
     "bytes after the events",
     "kind over 3, lock over 1, or unused field not 0",
-    "output under 4 bytes a record",
+    "output under 4 bytes a record, or page output under 1,400 bytes a page",
 ];
 
 /// The reason of a refusal, by its number from 1.
