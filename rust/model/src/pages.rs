@@ -56,27 +56,27 @@ pub fn pages_of(records: usize) -> usize {
 /// Reading: the index counts over the whole run, from 0, as the rack program's
 /// does.
 pub fn pages(records: &[Record]) -> String {
-    let lines = records.iter().enumerate();
-    let lines = lines.map(|(index, record)| line(index, record));
-    let blanks = std::iter::repeat(" ".repeat(COLUMNS));
-    let all = lines
-        .chain(blanks)
-        .take(LINES_PER_PAGE * pages_of(records.len()));
-    all.map(|line| line + "\n").collect()
+    let mut text = String::new();
+    for (index, record) in records.iter().enumerate() {
+        text += &line(index, record);
+    }
+    let blank_line = " ".repeat(COLUMNS) + "\n";
+    let blank_lines = LINES_PER_PAGE * pages_of(records.len()) - records.len();
+    text + &blank_line.repeat(blank_lines)
 }
 
 /// "index right-aligned in 5, state name left-aligned in 12, selected and
 /// refusal right-aligned in 2 each, 0x49 as two lower-case hexadecimal digits, a
-/// blank between columns"
+/// blank between columns. [..] Each line ends with a line feed"
 ///
-/// State and selected are those of 0x48; in document 01: "16 times state [..] +
-/// selected".
+/// State and selected are those of 0x48, which is, in document 01's words, "16
+/// times state [..] + selected".
 fn line(index: usize, record: &Record) -> String {
     let [refusal, state_and_selected, _, flags] = record;
     let state = State::ALL[usize::from(state_and_selected / 16)].name();
     let selected = state_and_selected % 16;
     format!(
-        "{:>5} {:<12} {:>2} {:>2} {:02x}",
+        "{:>5} {:<12} {:>2} {:>2} {:02x}\n",
         index, state, selected, refusal, flags
     )
 }

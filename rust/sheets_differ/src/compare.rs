@@ -1,15 +1,14 @@
 //! One sheet given to the model and to a runner, and to the rack program; all
 //! that comes back is compared.
 
-use crate::coverage::{Coverage, Room};
-use crate::difference::Mismatch;
+use crate::coverage::Coverage;
+use crate::difference::{Mismatch, Output};
+use crate::lent::Lent;
 use crate::rack::{Feed, Rack};
+use crate::room::Room;
 use crate::runner::Runner;
-use model::BYTES_PER_RECORD;
+use model::{pages_of, Record, BYTES_PER_PAGE, BYTES_PER_RECORD};
 use shared::random::Random;
-
-/// Bytes before and after the lent output, which are not lent.
-const AROUND: usize = 16;
 
 /// What is compared with the model: a runner, and perhaps a rack program.
 pub struct Against<'a, R> {
@@ -18,15 +17,16 @@ pub struct Against<'a, R> {
 }
 
 impl<R: Runner> Against<'_, R> {
-    /// Checks and runs with several lengths of the output.
+    /// Checks and runs with several lengths of the output; the records are
+    /// those of the model, none if it refuses the sheet.
     pub fn compare_runs(
         &self,
         random: &mut Random,
         sheet: &[u8],
+        records: Option<&[Record]>,
         coverage: &mut Coverage,
     ) -> Result<(), Mismatch> {
-        let records = model::records(sheet);
-        if let Ok(records) = &records {
+        if let Some(records) = records {
             coverage.note_records(records);
         }
         // A refused sheet has no records: any length will do for it.
@@ -36,16 +36,11 @@ impl<R: Runner> Against<'_, R> {
             self.compare_check(sheet, length, coverage)?;
         }
         for room in Room::ALL {
-            let length = match room {
-                Room::Nothing => 0,
-                Room::OneByteShort if exact == 0 => continue,
-                Room::OneByteShort => exact - 1,
-                Room::Exact => exact,
-                Room::Longer => exact + random.between(1, 100) as usize,
-            };
-            coverage.note_run(room);
-            self.compare_check(sheet, length, coverage)?;
-            self.compare_run(random, sheet, length)?;
+            if let Some(length) = room.length(exact, random) {
+                coverage.note_run(room);
+                self.compare_check(sheet, length, coverage)?;
+                self.compare_run(random, sheet, length)?;
+            }
         }
         Ok(())
     }
@@ -69,19 +64,16 @@ impl<R: Runner> Against<'_, R> {
         })
     }
 
-    /// Both run the sheet; the bytes written, those after them and those
-    /// around the lent output must be the same.
+    /// Both run the sheet.
     fn compare_run(
         &self,
         random: &mut Random,
         sheet: &[u8],
         output_len: usize,
     ) -> Result<(), Mismatch> {
-        let lent = AROUND..AROUND + output_len;
-        let mut bytes = any_bytes(random, lent.end + AROUND);
-        let mut expected = bytes.clone();
-        let model = model::run(sheet, &mut expected[lent.clone()]);
-        let runner = self.runner.run(sheet, &mut bytes[lent]);
+        let mut output = Lent::any(random, Output::Run, output_len);
+        let model = model::run(sheet, output.to_model());
+        let runner = self.runner.run(sheet, output.to_runner());
         if model != runner {
             return Err(Mismatch::Written {
                 output_len,
@@ -89,16 +81,64 @@ impl<R: Runner> Against<'_, R> {
                 runner,
             });
         }
-        let mut pairs = expected.iter().zip(&bytes);
-        match pairs.position(|(expected, byte)| expected != byte) {
-            None => Ok(()),
-            Some(place) => Err(Mismatch::Byte {
-                output_len,
-                place: place as isize - AROUND as isize,
-                model: expected[place],
-                runner: bytes[place],
-            }),
+        output.compare()
+    }
+
+    /// Prints with several lengths of the one output, each with several of the
+    /// other; the records are as above.
+    pub fn compare_prints(
+        &self,
+        random: &mut Random,
+        sheet: &[u8],
+        records: Option<&[Record]>,
+        coverage: &mut Coverage,
+    ) -> Result<(), Mismatch> {
+        let (exact_records, exact_pages) = match records {
+            Some(records) => {
+                coverage.pages.note_records(records);
+                let count = records.len();
+                (BYTES_PER_RECORD * count, BYTES_PER_PAGE * pages_of(count))
+            }
+            None => (random.below(400) as usize, random.below(4_000) as usize),
+        };
+        for records_room in Room::ALL {
+            for pages_room in Room::ALL {
+                let records_len = records_room.length(exact_records, random);
+                let pages_len = pages_room.length(exact_pages, random);
+                if let (Some(records_len), Some(pages_len)) = (records_len, pages_len) {
+                    let number = self.compare_print(random, sheet, records_len, pages_len)?;
+                    coverage.pages.note_print(records_room, pages_room, number);
+                }
+            }
         }
+        Ok(())
+    }
+
+    /// Both print the sheet: the number.
+    fn compare_print(
+        &self,
+        random: &mut Random,
+        sheet: &[u8],
+        records_len: usize,
+        pages_len: usize,
+    ) -> Result<u8, Mismatch> {
+        let mut records = Lent::any(random, Output::Records, records_len);
+        let mut pages = Lent::any(random, Output::Pages, pages_len);
+        let model = model::print(sheet, records.to_model(), pages.to_model());
+        let runner = self
+            .runner
+            .print(sheet, records.to_runner(), pages.to_runner());
+        if model != runner {
+            return Err(Mismatch::Print {
+                records_len,
+                pages_len,
+                model,
+                runner,
+            });
+        }
+        records.compare()?;
+        pages.compare()?;
+        Ok(model)
     }
 
     /// The text of the rack program, fed in each way.
@@ -119,11 +159,6 @@ impl<R: Runner> Against<'_, R> {
         }
         Ok(())
     }
-}
-
-fn any_bytes(random: &mut Random, count: usize) -> Vec<u8> {
-    let words = (0..count / 8 + 1).flat_map(|_| random.word().to_le_bytes());
-    words.take(count).collect()
 }
 
 /// The first line that is not the same.

@@ -1,8 +1,13 @@
 //! What the sheets have reached: how often each number, each kind of damage,
 //! each refusal of an event, each length of an output and each text came.
 
+mod pages;
+
+pub use pages::Pages;
+
 use crate::damage::Damage;
 use crate::rack::Feed;
+use crate::room::Room;
 use differ::report::never_reached;
 use model::{Record, LONGEST_SHEET};
 
@@ -12,28 +17,6 @@ const NUMBERS: [u8; 6] = [0, 9, 10, 11, 12, 13];
 const MOST_RECORDS: usize = 8_383;
 /// The lengths of sheets that the rack program must have seen.
 const RACK_LENGTHS: [usize; 6] = [0, 1, LONGEST_SHEET, 65_536, 70_000, 200_000];
-
-/// How long a lent output is beside what the records take.
-#[derive(Clone, Copy, Debug, PartialEq, Eq)]
-pub enum Room {
-    Nothing,
-    OneByteShort,
-    Exact,
-    Longer,
-}
-
-impl Room {
-    pub const ALL: [Room; 4] = [Room::Nothing, Room::OneByteShort, Room::Exact, Room::Longer];
-
-    fn name(self) -> &'static str {
-        match self {
-            Room::Nothing => "of no byte",
-            Room::OneByteShort => "one byte too short",
-            Room::Exact => "of the records' length",
-            Room::Longer => "longer than the records",
-        }
-    }
-}
 
 /// How often each of 0 to 13 came.
 type Tally = [u64; 14];
@@ -51,6 +34,7 @@ pub struct Coverage {
     /// The refusals in the records.
     refusals: Tally,
     runs: [u64; 4],
+    pub pages: Pages,
     feeds: [u64; 2],
     printed: Tally,
     printed_lengths: [u64; 6],
@@ -68,6 +52,7 @@ impl Coverage {
             damages: damages.collect(),
             refusals: [0; 14],
             runs: [0; 4],
+            pages: Pages::default(),
             feeds: [0; 2],
             printed: [0; 14],
             printed_lengths: [0; 6],
@@ -143,6 +128,7 @@ impl Coverage {
         list.extend(rooms);
         let name = format!("sheets of {} records, the most there can be", MOST_RECORDS);
         list.push((name, self.fullest));
+        list.extend(self.pages.counts());
         if with_rack {
             list.extend(self.rack_counts());
         }

@@ -2,8 +2,53 @@
 //! sheet.
 
 use crate::rack::Feed;
-use model::BYTES_PER_RECORD;
+use model::{BYTES_PER_PAGE, BYTES_PER_RECORD, COLUMNS};
 use std::fmt;
+
+/// What is lent to be written to: to a run, or the one or the other to a print.
+#[derive(Clone, Copy, Debug, PartialEq, Eq)]
+pub enum Output {
+    Run,
+    Records,
+    Pages,
+}
+
+impl Output {
+    fn name(self) -> &'static str {
+        match self {
+            Output::Run => "a run's output",
+            Output::Records => "a print's output for records",
+            Output::Pages => "a print's output for pages",
+        }
+    }
+
+    /// What stands at this place: the index of the record and of its byte, or
+    /// those of page, line and column, all from 0.
+    fn at(self, place: isize) -> String {
+        let parts = |size: usize| {
+            (
+                place.div_euclid(size as isize),
+                place.rem_euclid(size as isize),
+            )
+        };
+        match self {
+            Output::Run | Output::Records => {
+                let (record, byte) = parts(BYTES_PER_RECORD);
+                format!("record {}, byte {}", record, byte)
+            }
+            Output::Pages => {
+                let (page, rest) = parts(BYTES_PER_PAGE);
+                let line = COLUMNS as isize + 1;
+                format!(
+                    "page {}, line {}, column {}",
+                    page,
+                    rest / line,
+                    rest % line
+                )
+            }
+        }
+    }
+}
 
 /// How the answer differs from the model's.
 #[derive(Clone, Debug, PartialEq, Eq)]
@@ -18,9 +63,16 @@ pub enum Mismatch {
         model: usize,
         runner: usize,
     },
+    Print {
+        records_len: usize,
+        pages_len: usize,
+        model: u8,
+        runner: u8,
+    },
     /// The place counts from the beginning of the lent output; it is below 0
     /// or beyond the length if it was not lent.
     Byte {
+        output: Output,
         output_len: usize,
         place: isize,
         model: u8,
@@ -60,21 +112,33 @@ impl fmt::Display for Mismatch {
                 "bytes written to an output of {} bytes: the model {}, the controller {}",
                 output_len, model, runner
             ),
+            Mismatch::Print {
+                records_len,
+                pages_len,
+                model,
+                runner,
+            } => write!(
+                f,
+                "print with outputs of {} bytes for records and {} for pages: the model {}, the \
+                 controller {}",
+                records_len, pages_len, model, runner
+            ),
             Mismatch::Byte {
+                output,
                 output_len,
                 place,
                 model,
                 runner,
-            } => {
-                let record = place.div_euclid(BYTES_PER_RECORD as isize);
-                let byte = place.rem_euclid(BYTES_PER_RECORD as isize);
-                write!(
-                    f,
-                    "byte {} of an output of {} bytes (record {}, byte {}): the model {:#04x}, \
-                     the controller {:#04x}",
-                    place, output_len, record, byte, model, runner
-                )
-            }
+            } => write!(
+                f,
+                "byte {} of {}, {} bytes long ({}): the model {:#04x}, the controller {:#04x}",
+                place,
+                output.name(),
+                output_len,
+                output.at(*place),
+                model,
+                runner
+            ),
             Mismatch::Line {
                 feed,
                 line,

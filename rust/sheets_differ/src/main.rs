@@ -253,12 +253,13 @@ fn report(coverage: &Coverage, choices: &Choices) -> bool {
 
 fn totals(coverage: &Coverage) -> String {
     format!(
-        "{} whole and {} damaged sheets, {} records, {} checks, {} runs, {} texts",
+        "{} whole and {} damaged sheets, {} records, {} checks, {} runs, {} prints, {} texts",
         grouped(coverage.whole),
         grouped(coverage.damaged),
         grouped(coverage.records),
         grouped(coverage.checks()),
         grouped(coverage.runs()),
+        grouped(coverage.pages.prints()),
         grouped(coverage.texts())
     )
 }

@@ -101,7 +101,10 @@ pub fn compare<R: Runner>(
     rack: bool,
     coverage: &mut Coverage,
 ) -> Result<(), Mismatch> {
-    against.compare_runs(random, sheet, coverage)?;
+    let records = model::records(sheet).ok();
+    let records = records.as_deref();
+    against.compare_runs(random, sheet, records, coverage)?;
+    against.compare_prints(random, sheet, records, coverage)?;
     if rack {
         against.compare_texts(sheet, coverage)?;
     }

@@ -1,5 +1,5 @@
-//! What is compared: anything that checks and runs sheets as the controller
-//! does.
+//! What is compared: anything that checks, runs and prints sheets as the
+//! controller does.
 
 pub trait Runner {
     fn name(&self) -> &'static str;
@@ -9,13 +9,18 @@ pub trait Runner {
 
     /// How many bytes it wrote at the front of the output, 0 when refused.
     fn run(&self, sheet: &[u8], output: &mut [u8]) -> usize;
+
+    /// The number of the refusal, 0 if it wrote the records and their pages at
+    /// the fronts of the two outputs.
+    fn print(&self, sheet: &[u8], records: &mut [u8], pages: &mut [u8]) -> u8;
 }
 
-/// A check and a run with a name.
+/// A check, a run and a print with a name.
 pub struct Functions {
     pub name: &'static str,
     pub check: fn(&[u8], usize) -> u8,
     pub run: fn(&[u8], &mut [u8]) -> usize,
+    pub print: fn(&[u8], &mut [u8], &mut [u8]) -> u8,
 }
 
 impl Runner for Functions {
@@ -30,18 +35,24 @@ impl Runner for Functions {
     fn run(&self, sheet: &[u8], output: &mut [u8]) -> usize {
         (self.run)(sheet, output)
     }
+
+    fn print(&self, sheet: &[u8], records: &mut [u8], pages: &mut [u8]) -> u8 {
+        (self.print)(sheet, records, pages)
+    }
 }
 
 pub const MODEL: Functions = Functions {
     name: "model",
     check: model::check,
     run: model::run,
+    print: model::print,
 };
 
 pub const TUNED_MODEL: Functions = Functions {
     name: "tuned model",
     check: model::fast::check,
     run: model::fast::run,
+    print: model::fast::print,
 };
 
 #[cfg(feature = "sheets")]
@@ -49,4 +60,5 @@ pub const CONTROLLER: Functions = Functions {
     name: "controller",
     check: sheets::check,
     run: sheets::run,
+    print: sheets::print,
 };

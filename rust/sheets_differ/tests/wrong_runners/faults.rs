@@ -1,6 +1,7 @@
-//! The faults: each alters the number of a check, or what a run writes.
+//! The faults: each alters the number of a check, or what a run writes. Those of
+//! prints are in `prints`.
 
-use model::{check, run, LONGEST_SHEET};
+use model::{check, print, run, LONGEST_SHEET};
 use sheets_differ::runner::Functions;
 
 pub type Fault = Functions;
@@ -9,14 +10,23 @@ pub const NO_FAULT: Fault = Fault {
     name: "none",
     check,
     run,
+    print,
 };
 
 const fn in_check(name: &'static str, check: fn(&[u8], usize) -> u8) -> Fault {
-    Fault { name, check, run }
+    Fault {
+        name,
+        check,
+        ..NO_FAULT
+    }
 }
 
 const fn in_run(name: &'static str, run: fn(&[u8], &mut [u8]) -> usize) -> Fault {
-    Fault { name, check, run }
+    Fault {
+        name,
+        run,
+        ..NO_FAULT
+    }
 }
 
 /// The number without the question of the output.

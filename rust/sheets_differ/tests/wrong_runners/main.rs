@@ -1,15 +1,19 @@
-//! Deliberately wrong runners and rack programs: a difference must be found in
-//! each. They are the model with its answers altered.
+//! Deliberately wrong runners, pages and rack programs: a difference must be
+//! found in each. They are the model with its answers altered.
 
 mod faults;
+mod pages;
+mod prints;
 mod racks;
 
 use faults::{Fault, FAULTS, NO_FAULT};
+use pages::{WrongPages, PAGE_FAULTS};
+use prints::PRINT_FAULTS;
 use racks::{WrongRack, RACK_FAULTS};
 use sheets_differ::compare::Against;
 use sheets_differ::coverage::Coverage;
 use sheets_differ::damage::damages;
-use sheets_differ::difference::{Difference, Mismatch};
+use sheets_differ::difference::{Difference, Mismatch, Output};
 use sheets_differ::rack::Rack;
 use sheets_differ::run::{make, names, run_sheet, run_sheets};
 use sheets_differ::runner::{Runner, MODEL, TUNED_MODEL};
@@ -32,10 +36,22 @@ fn fault(name: &str) -> &'static Fault {
 #[test]
 fn each_wrong_runner_is_found() {
     let mut missed = Vec::new();
-    for fault in FAULTS {
+    for fault in FAULTS.iter().chain(PRINT_FAULTS) {
         match difference(fault, None) {
             Some(difference) => println!("{}\n{}\n", fault.name, difference),
             None => missed.push(fault.name),
+        }
+    }
+    assert!(missed.is_empty(), "not found: {:?}", missed);
+}
+
+#[test]
+fn each_wrong_page_is_found() {
+    let mut missed = Vec::new();
+    for &(name, text) in PAGE_FAULTS {
+        match difference(&WrongPages { text }, None) {
+            Some(difference) => println!("{}\n{}\n", name, difference),
+            None => missed.push(name),
         }
     }
     assert!(missed.is_empty(), "not found: {:?}", missed);
@@ -97,8 +113,10 @@ fn a_run_that_does_not_reach_everything_says_so() {
     outcome.expect("no difference");
     let missing = coverage.missing(true);
     assert!(missing.contains(&"checks answered 12".to_string()));
+    assert!(missing.contains(&"prints answered 12".to_string()));
     assert!(missing.contains(&"texts `refused 9`".to_string()));
     assert!(!missing.contains(&"checks answered 0".to_string()));
+    assert!(!missing.contains(&"prints answered 0".to_string()));
     let without_rack = coverage.missing(false);
     assert!(!without_rack.iter().any(|name| name.starts_with("texts")));
 }
@@ -134,6 +152,20 @@ fn the_first_differing_place_is_told() {
     let found = difference(fault("the output's first byte changed"), None);
     match found.expect("a difference").mismatch {
         Mismatch::Byte { place, .. } => assert_eq!(place, 0),
+        other => panic!("{}", other),
+    }
+    let wrong = WrongPages {
+        text: |records| model::pages(records).replace("Locked ", "locked "),
+    };
+    let mismatch = difference(&wrong, None).expect("a difference").mismatch;
+    let told = mismatch.to_string();
+    match mismatch {
+        Mismatch::Byte { output, place, .. } => {
+            assert_eq!((output, place % 28), (Output::Pages, 6));
+            let (page, line) = (place / 1_400, place / 28 % 50);
+            let place = format!("(page {}, line {}, column 6)", page, line);
+            assert!(told.contains(&place), "{}", told);
+        }
         other => panic!("{}", other),
     }
     let rack = WrongRack {

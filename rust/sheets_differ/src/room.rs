@@ -1,0 +1,40 @@
+//! How long a lent output is beside what is to be written to it.
+
+use shared::random::Random;
+
+#[derive(Clone, Copy, Debug, PartialEq, Eq)]
+pub enum Room {
+    Nothing,
+    OneByteShort,
+    Exact,
+    Longer,
+}
+
+impl Room {
+    pub const ALL: [Room; 4] = [Room::Nothing, Room::OneByteShort, Room::Exact, Room::Longer];
+
+    pub fn name(self) -> &'static str {
+        match self {
+            Room::Nothing => "of no byte",
+            Room::OneByteShort => "one byte too short",
+            Room::Exact => "of the length needed",
+            Room::Longer => "longer than needed",
+        }
+    }
+
+    /// The length of such an output, if so many bytes are to be written; none
+    /// if there is no such length.
+    pub fn length(self, exact: usize, random: &mut Random) -> Option<usize> {
+        match self {
+            Room::Nothing => Some(0),
+            Room::OneByteShort => exact.checked_sub(1),
+            Room::Exact => Some(exact),
+            Room::Longer => Some(exact + random.between(1, 100) as usize),
+        }
+    }
+
+    /// Whether there is room, where anything is to be written.
+    pub fn suffices(self) -> bool {
+        matches!(self, Room::Exact | Room::Longer)
+    }
+}
