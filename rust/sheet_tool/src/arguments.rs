@@ -10,6 +10,7 @@ pub enum Command {
     Make,
     Show,
     Run,
+    Page,
     Picture,
 }
 
@@ -33,6 +34,8 @@ pub struct Work {
     pub text: bool,
     /// Whether each record has its own line.
     pub all: bool,
+    /// Whether a form feed stands between pages.
+    pub form_feed: bool,
 }
 
 /// What the arguments ask for, or what is wrong with them.
@@ -47,16 +50,19 @@ pub fn request(arguments: impl Iterator<Item = OsString>) -> Result<Request, Str
         Some("make") => Command::Make,
         Some("show") => Command::Show,
         Some("run") => Command::Run,
+        Some("page") => Command::Page,
         Some("picture") => Command::Picture,
         _ => return Err(format!("no such command: {}", command.to_string_lossy())),
     };
     let mut source = None;
     let mut output = None;
-    let (mut text, mut all, mut force) = (command == Command::Make, false, false);
+    let mut text = command == Command::Make;
+    let (mut all, mut form_feed, mut force) = (false, false, false);
     while let Some(argument) = arguments.next() {
         match argument.to_str() {
             Some("--help" | "-h") => return Ok(Request::Help),
             Some("--all") if command == Command::Run => all = true,
+            Some("--form-feed") if command == Command::Page => form_feed = true,
             Some("--text") => text = true,
             Some("--force") => force = true,
             Some("-o") => {
@@ -80,6 +86,7 @@ pub fn request(arguments: impl Iterator<Item = OsString>) -> Result<Request, Str
         output: output.unwrap_or(Output::Standard),
         force,
         all,
+        form_feed,
     }))
 }
 

@@ -1,5 +1,5 @@
 //! The sheet tool: a run sheet made from a readable text, shown as that text,
-//! run, and drawn. Every answer comes from the controller's exported functions;
+//! run, printed, and drawn. Every answer comes from the controller's exported functions;
 //! none of its rules is written here again.
 
 #![forbid(unsafe_code)]
@@ -9,6 +9,7 @@ pub mod event;
 pub mod help;
 pub mod make;
 pub mod output;
+pub mod pages;
 pub mod picture;
 pub mod program;
 pub mod records;

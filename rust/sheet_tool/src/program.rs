@@ -3,6 +3,7 @@
 use crate::arguments::{request, Command, Request, Work};
 use crate::help::HELP;
 use crate::output::Output;
+use crate::pages::{pages, with_form_feeds};
 use crate::picture::picture;
 use crate::records::run;
 use crate::show::show;
@@ -48,6 +49,13 @@ fn do_work(work: &Work) -> Result<(), String> {
         Command::Make => sheet.to_bytes(),
         Command::Show => show(&sheet).into_bytes(),
         Command::Run => table(&run(&sheet), work.all).into_bytes(),
+        Command::Page => {
+            let pages = pages(&sheet).map_err(|number| work.source.refused(number))?;
+            match work.form_feed {
+                true => with_form_feeds(&pages),
+                false => pages,
+            }
+        }
         Command::Picture => {
             let moments = moments(&sheet, &run(&sheet))
                 .map_err(|reason| format!("{}: {}", work.source.name(), reason))?;

@@ -71,13 +71,19 @@ impl Source {
     pub fn read_sheet(&self) -> Result<Sheet, String> {
         let bytes = self.read(LONGEST_SHEET)?;
         Sheet::from_bytes(&bytes).map_err(|number| {
-            let reason = if looks_like_a_text(&bytes) {
-                "a text and not a sheet; --text takes it as a text".to_string()
+            if looks_like_a_text(&bytes) {
+                let reason = "a text and not a sheet; --text takes it as a text";
+                format!("{}: {}", self.name(), reason)
             } else {
-                format!("sheet refused with {}: {}", number, reason(number))
-            };
-            format!("{}: {}", self.name(), reason)
+                self.refused(number)
+            }
         })
+    }
+
+    /// What is said of a sheet that is refused with this number.
+    pub fn refused(&self, number: u8) -> String {
+        let reason = reason(number);
+        format!("{}: sheet refused with {}: {}", self.name(), number, reason)
     }
 
     /// All bytes, or one more than the limit.

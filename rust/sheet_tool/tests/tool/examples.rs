@@ -1,6 +1,6 @@
 //! The examples: their sheets and records. Their comments are in `stories`.
 
-use crate::files::{example, examples, read, repository};
+use crate::files::{example, examples, examples_with, read};
 use crate::process::sheet;
 use crate::round_trip;
 use crate::same_records;
@@ -37,12 +37,11 @@ fn each_has_the_records_beside_it() {
 }
 
 #[test]
-fn no_records_are_without_their_text() {
-    let entries = fs::read_dir(repository("examples")).expect("the examples");
-    for entry in entries {
-        let path = entry.expect("an entry").path();
-        if path.extension().map_or(false, |ending| ending == "records") {
-            assert!(path.with_extension("txt").exists(), "{}", path.display());
+fn no_records_and_no_page_are_without_their_text() {
+    let texts = examples();
+    for ending in [".records", ".page"] {
+        for name in examples_with(ending) {
+            assert!(texts.contains(&name), "{}{}", name, ending);
         }
     }
 }
@@ -67,7 +66,7 @@ fn the_sheet_of_document_01() {
     assert_eq!(made("document-01").to_bytes(), bytes);
     let outcome = sheet(&["make", &example("document-01", "txt")]);
     assert_eq!((outcome.status, outcome.output), (Some(0), bytes));
-    for command in ["show", "run"] {
+    for command in ["show", "run", "page"] {
         let from_sheet = sheet(&[command, &example("document-01", "sheet")]);
         assert_eq!(
             from_sheet,

@@ -6,11 +6,17 @@ use std::io;
 /// The examples, all texts in the folder `examples`, by their names without
 /// endings.
 pub fn examples() -> Vec<String> {
+    examples_with(".txt")
+}
+
+/// The files of the folder `examples` with this ending, by their names without
+/// it.
+pub fn examples_with(ending: &str) -> Vec<String> {
     let entries = fs::read_dir(repository("examples")).expect("the examples");
     let name = |entry: io::Result<fs::DirEntry>| {
         let name = entry.expect("an entry").file_name();
         let name = name.into_string().expect("a name in UTF-8");
-        name.strip_suffix(".txt").map(String::from)
+        name.strip_suffix(ending).map(String::from)
     };
     let mut names: Vec<String> = entries.filter_map(name).collect();
     names.sort();

@@ -5,6 +5,7 @@ mod examples;
 mod faults;
 mod files;
 mod outputs;
+mod pages;
 mod pictures;
 mod process;
 mod program;

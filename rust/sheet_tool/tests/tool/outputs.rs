@@ -29,7 +29,7 @@ fn names(folder: &str) -> Vec<String> {
 fn results_in_files() {
     let text = example("first-lock", "txt");
     let output = present("output-there", b"longer than what comes, or not");
-    for command in ["make", "show", "run", "picture"] {
+    for command in ["make", "show", "run", "page", "picture"] {
         for output in [&output, &absent("output-new")] {
             let written = sheet(&[command, &text, "-o", output]);
             assert_eq!(written.text(), "");
@@ -41,7 +41,7 @@ fn results_in_files() {
 #[test]
 fn a_dash_is_standard_output() {
     let text = example("first-lock", "txt");
-    for command in ["make", "show", "run", "picture"] {
+    for command in ["make", "show", "run", "page", "picture"] {
         let written = sheet(&[command, &text, "-o", "-"]);
         assert_eq!(written, sheet(&[command, &text]));
     }

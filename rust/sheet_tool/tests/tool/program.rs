@@ -28,10 +28,12 @@ fn help_says_it_all() {
         "make",
         "show",
         "run",
+        "page",
         "picture",
         "-o",
         "-o -",
         "--all",
+        "--form-feed",
         "--text",
         "--force",
         ".txt",
@@ -69,6 +71,8 @@ fn bad_arguments_have_status_2() {
         (&["--all"], "no such command: --all"),
         (&["run", "--every"], "no such option here: --every"),
         (&["make", "--all"], "no such option here: --all"),
+        (&["page", "--all"], "no such option here: --all"),
+        (&["run", "--form-feed"], "no such option here: --form-feed"),
         (&["show", "-x"], "no such option here: -x"),
         (&["make", "-o"], "-o without a file's name"),
         (&["make", "-o", "a", "-o", "b"], "-o given twice"),
@@ -85,7 +89,7 @@ fn files_that_cannot_be_read_or_written() {
     let missing = absent("program-missing");
     let reason = "cannot be read: No such file or directory (os error 2)";
     let failed = Outcome::failed(1, &format!("{}: {}", missing, reason));
-    for command in ["make", "show", "run", "picture"] {
+    for command in ["make", "show", "run", "page", "picture"] {
         assert_eq!(sheet(&[command, &missing]), failed);
         let of_folder = sheet(&[command, env!("CARGO_TARGET_TMPDIR")]);
         assert_eq!((of_folder.status, of_folder.output.len()), (Some(1), 0));
@@ -149,7 +153,7 @@ fn a_text_is_no_damaged_sheet() {
         ("long, cut in a letter", &long[1..]),
     ] {
         let file = present("program-text.sheet", text.as_bytes());
-        for command in ["show", "run", "picture"] {
+        for command in ["show", "run", "page", "picture"] {
             let of_file = Outcome::failed(1, &format!("{}: {}", file, reason));
             assert_eq!(sheet(&[command, &file]), of_file, "{}", name);
             let of_input = Outcome::failed(1, &format!("standard input: {}", reason));

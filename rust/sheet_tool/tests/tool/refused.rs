@@ -39,7 +39,7 @@ fn a_refused_sheet_is_told_and_nothing_is_written() {
         let refused = format!("sheet refused with {}: {}", number, meaning(number));
         let of_file = Outcome::failed(1, &format!("{}: {}", file, refused));
         let of_input = Outcome::failed(1, &format!("standard input: {}", refused));
-        for command in ["show", "run", "picture"] {
+        for command in ["show", "run", "page", "picture"] {
             assert_eq!(sheet(&[command, &file]), of_file);
             assert_eq!(sheet_with(&[command], &bytes), of_input);
             assert_eq!(sheet_with(&[command, "-"], &bytes), of_input);
@@ -61,7 +61,7 @@ fn a_text_at_fault_is_told_and_nothing_is_written() {
     let kept = present("refused-text-kept", b"as before");
     let reason = "3: \"1\" is one field too many for hit";
     let failed = Outcome::failed(1, &format!("{}:{}", file, reason));
-    for command in ["make", "show", "run", "picture"] {
+    for command in ["make", "show", "run", "page", "picture"] {
         assert_eq!(sheet(&[command, &file]), failed);
         assert_eq!(sheet(&[command, &file, "-o", &kept]), failed);
     }

@@ -38,3 +38,12 @@ fn the_sizes_of_a_sheet() {
     assert_eq!(sheets::BYTES_PER_EVENT, model::BYTES_PER_EVENT);
     assert_eq!(sheets::BYTES_PER_RECORD, model::BYTES_PER_RECORD);
 }
+
+#[test]
+fn the_sizes_of_a_page() {
+    assert_eq!(sheets::LINES_PER_PAGE, model::LINES_PER_PAGE);
+    assert_eq!(sheets::BYTES_PER_PAGE, model::BYTES_PER_PAGE);
+    for records in 0..=8_383 {
+        assert_eq!(sheets::pages_of(records), model::pages_of(records));
+    }
+}
