@@ -1,8 +1,8 @@
 //! Instructions an event, counted by valgrind's callgrind: this program is
-//! started again under it, to run one sheet a few times.
+//! started again under it, to run or print one sheet a few times.
 
 use crate::lists::EVENTS;
-use crate::Run;
+use crate::runners::{Outputs, Runner, Task};
 use std::process::Command;
 
 /// Counted twice, with so many repeats and with twice as many: what the start
@@ -15,22 +15,23 @@ pub fn possible() -> bool {
     version.map_or(false, |output| output.status.success())
 }
 
-/// The instructions of a runner with a sheet, by their names.
-pub fn instructions(runner: &str, sheet: &str) -> f64 {
-    let few = count(runner, sheet, REPEATS);
-    let many = count(runner, sheet, 2 * REPEATS);
+/// The instructions of a runner's task with the sheet of this name.
+pub fn instructions(runner: &Runner, task: Task, sheet: &str) -> f64 {
+    let few = count(runner, task, sheet, REPEATS);
+    let many = count(runner, task, sheet, 2 * REPEATS);
     (many - few) as f64 / (REPEATS * EVENTS) as f64
 }
 
 /// The instructions of a whole process with so many repeats.
-fn count(runner: &str, sheet: &str, repeats: usize) -> u64 {
+fn count(runner: &Runner, task: Task, sheet: &str, repeats: usize) -> u64 {
     let file = std::env::temp_dir().join(format!("bench-callgrind-{}", std::process::id()));
     let program = std::env::current_exe().expect("the path of this program");
     let output = Command::new("valgrind")
         .arg("--tool=callgrind")
         .arg(format!("--callgrind-out-file={}", file.display()))
         .arg(program)
-        .args(["--count", runner, sheet, &repeats.to_string()])
+        .args(["--count", runner.name, task.name(), sheet])
+        .arg(repeats.to_string())
         .output()
         .expect("valgrind");
     let said = String::from_utf8_lossy(&output.stderr);
@@ -43,9 +44,9 @@ fn count(runner: &str, sheet: &str, repeats: usize) -> u64 {
 }
 
 /// The process that is counted.
-pub fn repeat(run: Run, sheet: &[u8], repeats: usize) {
-    let mut output = vec![0; 65_536];
+pub fn repeat(runner: &Runner, task: Task, sheet: &[u8], repeats: usize) {
+    let mut outputs = Outputs::empty();
     for _ in 0..repeats {
-        assert!(run(sheet, &mut output) > 0);
+        runner.work(task, sheet, &mut outputs);
     }
 }

@@ -1,13 +1,15 @@
-//! The program: measures whole sheets, run by the real controller and by the
-//! Rust models: the times in turn, in one process, and the instructions, with
-//! valgrind. It is no part of the tests.
+//! The program: measures whole sheets, run and printed by the real controller
+//! and by the Rust models: the times in turn, in one process, and the
+//! instructions, with valgrind. It is no part of the tests.
 
 #![forbid(unsafe_code)]
 
 mod count;
 mod lists;
+mod runners;
 
 use lists::{EVENTS, SHEETS};
+use runners::{Outputs, Task, RUNNERS};
 use shared::options::{at_fault, unknown, Options};
 use std::ffi::OsString;
 use std::fs::File;
@@ -20,17 +22,6 @@ const HELP: &str = include_str!("help.txt");
 
 /// The rack program starts anew for each run: fewer of them.
 const RACK_RUNS: u32 = 20;
-
-type Run = fn(&[u8], &mut [u8]) -> usize;
-
-/// What is measured; each is compared with the two models: the plain one, and
-/// the one that is written for speed.
-const PLAIN: (&str, Run) = ("plain model", model::run);
-const TUNED: (&str, Run) = ("tuned model", model::fast::run);
-#[cfg(feature = "sheets")]
-const RUNNERS: &[(&str, Run)] = &[PLAIN, TUNED, ("real controller", sheets::run)];
-#[cfg(not(feature = "sheets"))]
-const RUNNERS: &[(&str, Run)] = &[PLAIN, TUNED];
 
 struct Choices {
     rack: Option<PathBuf>,
@@ -67,20 +58,24 @@ fn choices(mut options: Options<impl Iterator<Item = OsString>>) -> Result<Choic
     Ok(choices)
 }
 
-/// What the counted process does: a runner and a sheet, by their names, so often.
+/// What the counted process does: a runner, a task and a sheet, by their names,
+/// so often.
 fn repeat(arguments: impl Iterator<Item = OsString>) -> Result<(), String> {
     let words: Vec<_> = arguments
         .filter_map(|word| word.into_string().ok())
         .collect();
-    let (runner, sheet, repeats) = match &words[..] {
-        [runner, sheet, repeats] => (runner, sheet, repeats.parse()),
-        _ => return Err("--count takes a runner, a sheet and a number".to_string()),
+    let (runner, task, sheet, repeats) = match &words[..] {
+        [runner, task, sheet, repeats] => (runner, task, sheet, repeats.parse()),
+        _ => return Err("--count takes a runner, a task, a sheet and a number".to_string()),
     };
-    let run = RUNNERS.iter().find(|(name, _)| name == runner);
+    let runner = RUNNERS.iter().find(|other| other.name == runner);
+    let task = Task::ALL.into_iter().find(|other| other.name() == task);
     let sheet = SHEETS.iter().find(|(name, _)| name == sheet);
-    match (run, sheet, repeats) {
-        (Some((_, run)), Some((_, sheet)), Ok(repeats)) => count::repeat(*run, &sheet(), repeats),
-        _ => return Err("--count names no runner, no sheet or no number".to_string()),
+    match (runner, task, sheet, repeats) {
+        (Some(runner), Some(task), Some((_, sheet)), Ok(repeats)) => {
+            count::repeat(runner, task, &sheet(), repeats)
+        }
+        _ => return Err("--count names no runner, no task, no sheet or no number".to_string()),
     }
     Ok(())
 }
@@ -97,11 +92,13 @@ fn measure(choices: &Choices) {
     for (name, sheet) in SHEETS {
         let sheet = sheet();
         describe(name, &sheet);
-        let times = times(&sheet, choices.runs);
-        let counts = RUNNERS
-            .iter()
-            .map(|(runner, _)| count::instructions(runner, name));
-        print_table(&times, counting.then(|| counts.collect()));
+        for task in Task::ALL {
+            let times = times(task, &sheet, choices.runs);
+            let counts = RUNNERS
+                .iter()
+                .map(|runner| count::instructions(runner, task, name));
+            print_table(task, &times, counting.then(|| counts.collect()));
+        }
         if let Some(rack) = &choices.rack {
             measure_rack(&sheet, rack);
         }
@@ -126,18 +123,17 @@ fn describe(name: &str, sheet: &[u8]) {
 }
 
 /// All runners in turn, the best time of each, in nanoseconds an event.
-fn times(sheet: &[u8], runs: u32) -> Vec<f64> {
-    let mut expected = vec![0; 65_536];
-    let written = model::run(sheet, &mut expected);
+fn times(task: Task, sheet: &[u8], runs: u32) -> Vec<f64> {
+    let (mut expected, mut outputs) = (Outputs::empty(), Outputs::empty());
+    RUNNERS[0].work(task, sheet, &mut expected);
     let mut best = vec![Duration::MAX; RUNNERS.len()];
     for _ in 0..runs {
-        for ((runner, run), best) in RUNNERS.iter().zip(&mut best) {
-            let mut output = vec![0; expected.len()];
+        for (runner, best) in RUNNERS.iter().zip(&mut best) {
+            outputs.clear();
             let start = Instant::now();
-            let count = run(sheet, &mut output);
+            runner.work(task, sheet, &mut outputs);
             *best = start.elapsed().min(*best);
-            assert_eq!(count, written, "{}", runner);
-            assert!(output == expected, "{} gives other records", runner);
+            assert!(outputs == expected, "{} writes other bytes", runner.name);
         }
     }
     let per_event = |best: Duration| best.as_nanos() as f64 / EVENTS as f64;
@@ -145,20 +141,23 @@ fn times(sheet: &[u8], runs: u32) -> Vec<f64> {
 }
 
 /// A line for each runner: time and instructions, and the ratios to the models.
-fn print_table(times: &[f64], counts: Option<Vec<f64>>) {
+fn print_table(task: Task, times: &[f64], counts: Option<Vec<f64>>) {
     print!(
         "{:<18}{:>12}{:>10}{:>10}",
-        "", "ns an event", "to plain", "to tuned"
+        task.name(),
+        "ns an event",
+        "to plain",
+        "to tuned"
     );
     if counts.is_some() {
         print!("{:>23}{:>10}", "instructions an event", "to tuned");
     }
     println!();
-    for (i, (runner, _)) in RUNNERS.iter().enumerate() {
+    for (i, runner) in RUNNERS.iter().enumerate() {
         let (plain, tuned) = (times[i] / times[0], times[i] / times[1]);
         print!(
             "  {:<16}{:>12.1}{:>10.2}{:>10.2}",
-            runner, times[i], plain, tuned
+            runner.name, times[i], plain, tuned
         );
         if let Some(counts) = &counts {
             print!("{:>23.1}{:>10.2}", counts[i], counts[i] / counts[1]);
