@@ -1,4 +1,4 @@
-/* Document 01's cases A to J ("Marked trials"), driven by a host in C through the three functions of controller.h. */
+/* Document 01's cases A to J ("Marked trials"), driven by a host in C through the three functions of libhost.a. */
 #include "controller.h"
 
 #include <stdio.h>

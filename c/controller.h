@@ -1,4 +1,7 @@
-/* The reference controller of the eight-input timing unit, for a host in C (link libhost.a; for run sheets, librun.a).
+/* The reference controller of the eight-input timing unit, for a host in C. Three libraries, of which a program links those that it uses:
+ *   libhost.a:  unit_fresh, unit_event, unit_read
+ *   librun.a:   sheet_check, sheet_run
+ *   libprint.a: sheet_print
  *
  * The host owns a unit's state. It makes one with unit_fresh, lends it to unit_event for each event and to unit_read for each read, and writes it by
  * nothing else. A tick is 128 ms. Document 01 says what each event does and what each register shows.
@@ -129,6 +132,16 @@ uint8_t sheet_check(const uint8_t *sheet, size_t len, size_t output_len);
  * Sheet and output do not overlap.
  * A refused sheet gives 0, and so does a sheet without settings and events, which runs and has no records: sheet_check tells the two apart. */
 size_t sheet_run(const uint8_t *sheet, size_t len, uint8_t *output, size_t output_len);
+
+/* Runs a sheet as sheet_run does and prints its records: its refusal number, 9 to 13, or 0 if it ran. The records stand at the front of the first output,
+ * 4 bytes each, their pages at the front of the second, 1,400 bytes each. The bytes after the records and after the last page are unchanged; a refused
+ * sheet leaves both outputs as they were. Sheet and outputs do not overlap.
+ * A page has 50 lines of 27 columns and a line feed. Each record has a line, with a blank between its columns: the index, from 0 over the whole run, in 5,
+ * the state's name in 12, selected and refusal in 2 each, 0x49 in two hexadecimal digits; the name stands to the left, the numbers to the right. The last
+ * page is filled with lines of 27 spaces. A sheet without settings and events runs, and has no page.
+ * 13 is for either output, one under 4 bytes a record or one under 1,400 bytes a page. The most that a sheet gives are 8,383 records: 33,532 bytes, and
+ * 235,200 for their 168 pages. */
+uint8_t sheet_print(const uint8_t *sheet, size_t len, uint8_t *records, size_t records_len, uint8_t *pages, size_t pages_len);
 
 #ifdef __cplusplus
 }
