@@ -10,6 +10,19 @@ use crate::runner::Runner;
 use model::{pages_of, Record, BYTES_PER_PAGE, BYTES_PER_RECORD};
 use shared::random::Random;
 
+/// A sheet, and the records that the model gives for it: none if it refuses it.
+pub struct Given<'a> {
+    sheet: &'a [u8],
+    records: Option<Vec<Record>>,
+}
+
+impl<'a> Given<'a> {
+    pub fn of(sheet: &'a [u8]) -> Given<'a> {
+        let records = model::records(sheet).ok();
+        Given { sheet, records }
+    }
+}
+
 /// What is compared with the model: a runner, and perhaps a rack program.
 pub struct Against<'a, R> {
     pub runner: &'a R,
@@ -17,21 +30,22 @@ pub struct Against<'a, R> {
 }
 
 impl<R: Runner> Against<'_, R> {
-    /// Checks and runs with several lengths of the output; the records are
-    /// those of the model, none if it refuses the sheet.
+    /// Checks and runs with several lengths of the output.
     pub fn compare_runs(
         &self,
         random: &mut Random,
-        sheet: &[u8],
-        records: Option<&[Record]>,
+        given: &Given,
         coverage: &mut Coverage,
     ) -> Result<(), Mismatch> {
-        if let Some(records) = records {
-            coverage.note_records(records);
-        }
-        // A refused sheet has no records: any length will do for it.
-        let any = random.below(400) as usize;
-        let exact = records.map_or(any, |records| BYTES_PER_RECORD * records.len());
+        let sheet = given.sheet;
+        let exact = match &given.records {
+            Some(records) => {
+                coverage.note_records(records);
+                BYTES_PER_RECORD * records.len()
+            }
+            // A refused sheet has no records: any length will do for it.
+            None => random.below(400) as usize,
+        };
         for length in [1, exact / 2, exact + 1, exact + 4, 65_536, usize::MAX] {
             self.compare_check(sheet, length, coverage)?;
         }
@@ -84,16 +98,14 @@ impl<R: Runner> Against<'_, R> {
         output.compare()
     }
 
-    /// Prints with several lengths of the one output, each with several of the
-    /// other; the records are as above.
+    /// Prints with several lengths of both outputs.
     pub fn compare_prints(
         &self,
         random: &mut Random,
-        sheet: &[u8],
-        records: Option<&[Record]>,
+        given: &Given,
         coverage: &mut Coverage,
     ) -> Result<(), Mismatch> {
-        let (exact_records, exact_pages) = match records {
+        let (exact_records, exact_pages) = match &given.records {
             Some(records) => {
                 coverage.pages.note_records(records);
                 let count = records.len();
@@ -101,14 +113,12 @@ impl<R: Runner> Against<'_, R> {
             }
             None => (random.below(400) as usize, random.below(4_000) as usize),
         };
-        for records_room in Room::ALL {
-            for pages_room in Room::ALL {
-                let records_len = records_room.length(exact_records, random);
-                let pages_len = pages_room.length(exact_pages, random);
-                if let (Some(records_len), Some(pages_len)) = (records_len, pages_len) {
-                    let number = self.compare_print(random, sheet, records_len, pages_len)?;
-                    coverage.pages.note_print(records_room, pages_room, number);
-                }
+        for (records_room, pages_room) in Room::pairs(random) {
+            let records_len = records_room.length(exact_records, random);
+            let pages_len = pages_room.length(exact_pages, random);
+            if let (Some(records_len), Some(pages_len)) = (records_len, pages_len) {
+                let number = self.compare_print(random, given.sheet, records_len, pages_len)?;
+                coverage.pages.note_print(records_room, pages_room, number);
             }
         }
         Ok(())

@@ -37,4 +37,19 @@ impl Room {
     pub fn suffices(self) -> bool {
         matches!(self, Room::Exact | Room::Longer)
     }
+
+    /// Each for one output with each for another. Of the four in which both
+    /// suffice, which take the most time, there are two: both of one kind, or
+    /// each of the other.
+    pub fn pairs(random: &mut Random) -> Vec<(Room, Room)> {
+        let alike = random.one_in(2);
+        let all = Room::ALL
+            .iter()
+            .flat_map(|&one| Room::ALL.map(|other| (one, other)));
+        all.filter(|(one, other)| {
+            let both = one.suffices() && other.suffices();
+            !both || (one == other) == alike
+        })
+        .collect()
+    }
 }

@@ -1,6 +1,6 @@
 //! A whole run: the sheets of a base seed, one after the other.
 
-use crate::compare::Against;
+use crate::compare::{Against, Given};
 use crate::coverage::Coverage;
 use crate::damage::Damage;
 use crate::difference::{Difference, Mismatch, Name};
@@ -101,10 +101,9 @@ pub fn compare<R: Runner>(
     rack: bool,
     coverage: &mut Coverage,
 ) -> Result<(), Mismatch> {
-    let records = model::records(sheet).ok();
-    let records = records.as_deref();
-    against.compare_runs(random, sheet, records, coverage)?;
-    against.compare_prints(random, sheet, records, coverage)?;
+    let given = Given::of(sheet);
+    against.compare_runs(random, &given, coverage)?;
+    against.compare_prints(random, &given, coverage)?;
     if rack {
         against.compare_texts(sheet, coverage)?;
     }
