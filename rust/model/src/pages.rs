@@ -66,8 +66,8 @@ pub fn pages(records: &[Record]) -> String {
 }
 
 /// "index right-aligned in 5, state name left-aligned in 12, selected and
-/// refusal right-aligned in 2 each, 0x49 as two lower-case hexadecimal digits, a
-/// blank between columns. [..] Each line ends with a line feed"
+/// refusal right-aligned in 2 each, 0x49 as two lower-case hexadecimal digits,
+/// a blank between columns. [..] Each line ends with a line feed"
 ///
 /// State and selected are those of 0x48, which is, in document 01's words, "16
 /// times state [..] + selected".

@@ -1,6 +1,6 @@
 //! The sheet tool: a run sheet made from a readable text, shown as that text,
-//! run, printed, and drawn. Every answer comes from the controller's exported functions;
-//! none of its rules is written here again.
+//! run, printed, and drawn. Every answer comes from the controller's exported
+//! functions; none of its rules is written here again.
 
 #![forbid(unsafe_code)]
 

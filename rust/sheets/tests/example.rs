@@ -35,8 +35,8 @@ fn a_refused_sheet_leaves_the_output() {
     }
 }
 
-/// The example's page, filled with blank lines; the bytes after records and page
-/// are unchanged.
+/// The example's page, filled with blank lines; the bytes after records and
+/// page are unchanged.
 #[test]
 fn the_example_is_printed() {
     let lines = [

@@ -25,8 +25,8 @@ fn the_controller_runs_sheets_as_the_model() {
     assert_eq!(coverage.missing(false), Vec::<String>::new());
 }
 
-/// 0, 1, 49, 50, 51, 100 and 8,383 records: both outputs as long as they need to
-/// be, one byte shorter, and longer.
+/// 0, 1, 49, 50, 51, 100 and 8,383 records: both outputs as long as they need
+/// to be, one byte shorter, and longer.
 #[test]
 fn the_controller_prints_pages_as_the_model() {
     let mut random = Random::new(SEED);

@@ -1,5 +1,5 @@
-//! The pages: those of the examples are what the tool makes, those of every sheet
-//! the model's, and form feeds stand between them.
+//! The pages: those of the examples are what the tool makes, those of every
+//! sheet the model's, and form feeds stand between them.
 
 use crate::files::{example, examples, examples_with, read_text};
 use crate::process::{sheet, sheet_with};

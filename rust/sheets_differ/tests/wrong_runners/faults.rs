@@ -1,5 +1,5 @@
-//! The faults: each alters the number of a check, or what a run writes. Those of
-//! prints are in `prints`.
+//! The faults: each alters the number of a check, or what a run writes. Those
+//! of prints are in `prints`.
 
 use model::{check, print, run, LONGEST_SHEET};
 use sheets_differ::runner::Functions;
