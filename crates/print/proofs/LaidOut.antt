@@ -1,5 +1,5 @@
 -- The pages of the records that a run hands back.
-use Prim.Native.Nat.{_*_, _/_, _≤_}
+use Prim.Native.Nat.{_*_, _/_}
 use mathlib.Core.Path.{_≡_, refl}
 use mathlib.Core.List.{List}
 use Prim.Native.Nat.{ℕ}

@@ -21,8 +21,11 @@ pub mod Pages
 pub mod Sheets
 pub mod RecordBytes
 pub mod Prints
+pub mod Printable
+pub mod ReadBack
 pub mod Refusals
 pub mod Laws
 pub mod Progress
 pub mod Promise
 pub mod Records
+pub mod PageLaws

@@ -1,13 +1,12 @@
 -- The call that runs and prints a sheet: what it has passed, and what it leaves.
 use Prim.Native.Nat.{ℕ, _*_, _≤_}
-use mathlib.Core.Path.{_≡_, refl, ap, sym, _∙_}
-use mathlib.Core.Bool.{true, false}
+use mathlib.Core.Path.{_≡_, refl}
 use mathlib.Core.List.{List}
-use lib.Dec.{ltb, eqb}
+use lib.Dec.{eqb}
 use lib.ListN.{length}
 use borrow.Author.Tests.{ltb-false, eq-eqb, ne-eqb, eqb-true}
 use Rattle.rules.specs.Sheet.{recordCount, check, front, over, outputAfter}
-use Rattle.rules.specs.Pages.{pageBytes, pageCount, pagesOf, printCheck, Print, print}
+use Rattle.rules.specs.Pages.{pageBytes, pageCount, pagesOf, printCheck, print}
 use Rattle.rules.proofs.Tests.{by-test, clash, unrefused}
 
 -- what a sheet has passed that is run and printed

@@ -1,6 +1,6 @@
 -- What the bytes of a record can be.
-use Prim.Native.Nat.{ℕ, zero, suc, _+_, _*_, _≤_, _<_}
-use mathlib.Core.Path.{_≡_, refl, ap, sym, _∙_}
+use Prim.Native.Nat.{ℕ, zero, suc, _*_, _≤_, _<_}
+use mathlib.Core.Path.{_≡_, ap}
 use mathlib.Core.Bool.{not, _&&_}
 use mathlib.Core.List.{List, [], _∷_, _++_}
 use native.Mathlib.Omega.{arith}
@@ -15,7 +15,7 @@ use Rattle.rules.specs.History.{held}
 use Rattle.rules.specs.Registers.{inMap, readOnly, largest, fresh}
 use Rattle.rules.specs.Refusals.{limitsRefused, commandRefused, writeRefusal, refusal}
 use Rattle.rules.specs.Run.{next, outcome}
-use Rattle.rules.specs.Sheet.{recordCount, check, recordOf, records, sheetEvents, front}
+use Rattle.rules.specs.Sheet.{check, recordOf, records, sheetEvents, front}
 use Rattle.rules.specs.Laws.{RecordBytes, EachRecord}
 use Rattle.rules.proofs.Tests.{if-le}
 use Rattle.rules.proofs.Bytes.{state-digit, status-bits}

@@ -1,7 +1,7 @@
 -- Run sheets: what a run writes.
 use Prim.Native.Nat.{ℕ, zero, suc, _+_, _*_, _≤_}
 use mathlib.Core.Path.{_≡_, refl, ap, sym, _∙_}
-use mathlib.Core.Bool.{true, false, _||_, false≢true}
+use mathlib.Core.Bool.{true, _||_, false≢true}
 use mathlib.Core.List.{List, [], _∷_, _++_}
 use native.Mathlib.Omega.{arith}
 use lib.Dec.{ltb}
@@ -15,7 +15,7 @@ use Rattle.rules.specs.Reading.{qualifiedMask, stateByte, statusByte, sh
 use Rattle.rules.specs.Run.{outcome, run}
 use Rattle.rules.specs.Sheet.{Decoded, event, bad, decode, settingsCount, eventsAt, eventsCount, sheetEnd, settingsOf, before, eventsOf, sheetEvents, isEvent, allEvents, recordCount, check, recordOf, records, front, outputAfter}
 use Rattle.rules.specs.Laws.{Outputs, OutputKept}
-use Rattle.rules.proofs.Tests.{and-left, and-right, unrefused}
+use Rattle.rules.proofs.Tests.{and-left, and-right, or-false, unrefused}
 
 pub length-settings : (k : ℕ) (l : List ℕ) → length (settingsOf k l) ≡ k
 unfolding settingsOf
@@ -51,18 +51,26 @@ length-records s [] = refl
 length-records s (e ∷ es) = omega (arith, length-records (outcome s e .state) es)
 
 -- what a sheet that runs has passed
-record Passed (s : List ℕ) (room : ℕ) : Type 0 where
-  events : allEvents (eventsCount s) (drop (eventsAt s + 2) s) ≡ true
-  fits : 4 * recordCount s ≤ room
+pub record Passed (s : List ℕ) (room : ℕ) : Type 0 where
+  pub short : length s ≤ 65_535
+  pub few : settingsCount s ≤ 256
+  pub whole : length s ≡ sheetEnd s
+  pub events : allEvents (eventsCount s) (drop (eventsAt s + 2) s) ≡ true
+  pub fits : 4 * recordCount s ≤ room
 
-passed : (s : List ℕ) (room : ℕ) → check s room ≡ 0 → Passed s room
+pub passed : (s : List ℕ) (room : ℕ) → check s room ≡ 0 → Passed s room
 unfolding check
 passed s room e =
     let first = unrefused (ltb 65_535 (length s) || ltb 256 (settingsCount s)) 8 _ e in
     let second = unrefused (ltb (length s) (sheetEnd s)) 9 _ (first .1) in
     let third = unrefused (ltb (sheetEnd s) (length s)) 10 _ (second .1) in
+    let sized = or-false (ltb 65_535 (length s)) (ltb 256 (settingsCount s)) (first .0) in
+    let whole : length s ≡ sheetEnd s = omega (arith, ltb-false (length s) (sheetEnd s) (second .0), ltb-false (sheetEnd s) (length s) (third .0)) in
     let fourth = unrefused _ 11 _ (third .1) in
     record {
+      short = ltb-false 65_535 (length s) (sized .0);
+      few = ltb-false 256 (settingsCount s) (sized .1);
+      whole = whole;
       events = not-false (allEvents (eventsCount s) (drop (eventsAt s + 2) s)) (fourth .0);
       fits = ltb-false room (4 * recordCount s) (unrefused _ 12 0 (fourth .1) .0);
     }

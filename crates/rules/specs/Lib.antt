@@ -22,3 +22,4 @@ pub mod Laws
 pub mod Preference
 pub mod Service
 pub mod Records
+pub mod PageLaws

@@ -60,23 +60,18 @@ pageCount n = (n + 49) / pageLines
 unfoldable pub pageLine : ℕ → List ℕ → ℕ → List ℕ
 pageLine n records j = (if ltb j n then recordColumns j (drop (4 * j) records) else blanks lineColumns) ++ lineFeed ∷ []
 
--- k lines from line j on
-unfoldable pub linesFrom : ℕ → List ℕ → ℕ → ℕ → List ℕ
-linesFrom n records zero j = []
-linesFrom n records (suc k) j = pageLine n records j ++ linesFrom n records k (j + 1)
+-- k texts one after the other, from that of number j on
+unfoldable pub joined : (ℕ → List ℕ) → ℕ → ℕ → List ℕ
+joined text zero j = []
+joined text (suc k) j = text j ++ joined text k (j + 1)
 
 -- page p, counted from 0
 unfoldable pub page : ℕ → List ℕ → ℕ → List ℕ
-page n records p = linesFrom n records pageLines (pageLines * p)
-
--- k pages from page p on
-unfoldable pub pagesFrom : ℕ → List ℕ → ℕ → ℕ → List ℕ
-pagesFrom n records zero p = []
-pagesFrom n records (suc k) p = page n records p ++ pagesFrom n records k (p + 1)
+page n records p = joined (pageLine n records) pageLines (pageLines * p)
 
 -- all pages of n records
 unfoldable pub pagesOf : ℕ → List ℕ → List ℕ
-pagesOf n records = pagesFrom n records (pageCount n) 0
+pagesOf n records = joined (page n records) (pageCount n) 0
 
 -- ---- the call
 

@@ -1,11 +1,10 @@
 -- What a sheet's run writes: the records of the settings, and behind them those of the events.
 use Prim.Native.Nat.{ℕ, _+_, _-_, _*_}
 use mathlib.Core.Path.{_≡_, refl, ap, sym, _∙_}
-use mathlib.Core.List.{List, [], _∷_, _++_}
+use mathlib.Core.List.{List, [], _++_}
 use borrow.Author.Tests.{eq-eqb, ne-eqb}
 use lib.ListN.{length, take, drop, length-append}
 use lib.Seq.{take-at, drop-append-add, drop-drop}
-use Rattle.rules.specs.Events.{Event}
 use Rattle.rules.specs.State.{State}
 use Rattle.rules.specs.Registers.{fresh}
 use Rattle.rules.specs.Run.{run}

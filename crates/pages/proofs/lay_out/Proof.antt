@@ -1,23 +1,20 @@
 -- The loop's invariant: the first j lines stand at the front.
 use Prim.Native.Nat.{_*_, _-_, _/_, _≤_, _<_}
-use mathlib.Core.Path.{_≡_, refl, ap, sym, _∙_}
+use mathlib.Core.Path.{_≡_, refl, ap, _∙_}
 use native.Mathlib.Omega.{arith}
 use lib.ListN.{length}
 use lib.Seq.{sets, length-sets}
 use denote.Ref.{now}
 use borrow.Author.Needs.{needs}
 use borrow.Author.Tests.{lt-ltb, le-ltb}
-use Rattle.rules.specs.Pages.{pageBytes, pageLines, pageCount, linesFrom, pagesOf}
-use Rattle.rules.proofs.Pages.{all-lines, length-pages}
-use Rattle.digits.specs.Places.{Puts}
-use Rattle.digits.proofs.Places.{from-front}
+use Rattle.rules.specs.Pages.{pageBytes, pageCount, pageLine, joined}
 use Rattle.pages.specs.Output.{laidOut}
 use Rattle.pages.proofs.Turns.{one-line, all-put}
 use Rattle.pages.proofs.lay_out.Statement.{statement}
 use Rattle.pages.proofs.lay_out.Tie as tie
 
 abbrev Inv-loop : tie.InvT-loop
-Inv-loop records out₀ n count lines j₀ out j = (j ≤ lines) × (length out ≡ length out₀) × (out ≡ sets out₀ 0 (linesFrom n records j 0))
+Inv-loop records out₀ n count lines j₀ out j = (j ≤ lines) × (length out ≡ length out₀) × (out ≡ sets out₀ 0 (joined (pageLine n records) j 0))
 
 abbrev μ-loop : tie.MeasureT-loop
 μ-loop records out₀ n count lines j₀ out j = lines - j
@@ -30,7 +27,7 @@ returns c =
     rw (lt-ltb _ _ short) refl
 
 loop-holds : tie.Need-loop-holds Inv-loop μ-loop
-unfolding linesFrom
+unfolding joined
 loop-holds c = (omega arith, refl, refl)
 
 loop-again : tie.Need-loop-again Inv-loop μ-loop

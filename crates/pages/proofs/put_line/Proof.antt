@@ -1,5 +1,4 @@
 -- The line of a record, or a blank one.
-use mathlib.Core.Path.{refl}
 use borrow.Author.Needs.{needs}
 use borrow.Author.Tests.{lt-ltb, le-ltb}
 use Rattle.rules.specs.Pages.{pageLine}

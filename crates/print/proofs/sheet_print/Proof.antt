@@ -1,5 +1,5 @@
 -- A refusal leaves both outputs; else the pages are those of the part that `run_into` wrote.
-use mathlib.Core.Path.{_≡_, refl, ap, sym, _∙_}
+use mathlib.Core.Path.{_≡_, ap, sym, _∙_}
 use mathlib.Core.List.{List}
 use Prim.Native.Nat.{ℕ}
 use native.Mathlib.Omega.{arith}
@@ -9,7 +9,7 @@ use borrow.Author.Needs.{needs}
 use Rattle.rules.specs.Sheet.{front}
 use Rattle.rules.specs.Pages.{printCheck}
 use Rattle.rules.proofs.Sheets.{outputs, front-part}
-use Rattle.rules.proofs.Prints.{Passed, passed, ran, refused}
+use Rattle.rules.proofs.Prints.{passed, ran, refused}
 use Rattle.pages.specs.Output.{laidOut}
 use Rattle.print.proofs.LaidOut.{laid-out}
 use Rattle.print.proofs.sheet_print.Statement.{statement}
