@@ -1,3 +1,4 @@
 -- The statements of specs/, proved by running the rules.
 pub mod Trials
 pub mod ExampleSheet
+pub mod ExamplePage

@@ -1,3 +1,4 @@
--- Document 01's worked cases, as statements. Each is proved in the file of proofs/ with the same name.
+-- The documents' worked cases, as statements. Each is proved in the file of proofs/ with the same name.
 pub mod Trials
 pub mod ExampleSheet
+pub mod ExamplePage

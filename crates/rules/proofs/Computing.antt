@@ -13,6 +13,7 @@ use Rattle.rules.specs.Refusals
 use Rattle.rules.specs.Run
 use Rattle.rules.specs.Sheet
 use Rattle.rules.specs.Printout
+use Rattle.rules.specs.Pages
 use Rattle.rules.specs.Service
 
 -- Its value means nothing; what counts is the list under it.
@@ -40,5 +41,7 @@ unfolding
     Sheet.check Sheet.recordOf Sheet.records Sheet.front Sheet.outputAfter
     Printout.digit Printout.decimalIn Printout.decimal Printout.hexadecimal Printout.recordsWord Printout.refusedWord Printout.headLine
     Printout.recordLine Printout.recordLines Printout.printed
+    Pages.leftIn Pages.rightIn Pages.stateName Pages.recordColumns Pages.pageCount Pages.pageLine Pages.joined Pages.page Pages.pagesOf
+    Pages.printCheck Pages.print
     Service.acceptedTicks
 computing = 0
