@@ -2,10 +2,12 @@
 // Each text is put at a place of the lent bytes, as much of it as there is room for, and the place after it is returned.
 // Each contract cites a rule of crates/rules/specs/Printout.antt; the rule is named above the function.
 ghost use mathlib.Core.Path.{_≡_};
-ghost use mathlib.Core.List.{[], _∷_};
-ghost use Prim.Native.Nat.{_<_};
+ghost use mathlib.Core.List.{[], _∷_, _++_};
+ghost use Prim.Native.Nat.{_+_, _<_};
+ghost use lib.ListN.{length};
 ghost use Rattle.rules.specs.Printout as rules;
 ghost use Rattle.rules.specs.Printout.{blank, decimal, hexadecimal};
+ghost use Rattle.rules.specs.Pages.{blanks};
 ghost use Rattle.digits.specs.Places.{Puts};
 
 // One byte.
@@ -47,15 +49,36 @@ pub fn wide(byte: u8) -> usize
     byte as usize
 }
 
-// The rule `decimal`: the digits of a tenth, and the last digit.
+// A number's digits at the end of 25 columns, and the place of the first; the columns before it are blank. No number has more than 20 digits.
+pub struct Digits {
+    pub columns: [u8; 25],
+    pub start: usize,
+}
+
+// The rule `decimal`, the last digit first.
+pub fn digits_of(n: usize) -> Digits
+    ensures { λ r. ⌜ (r .columns ≡ blanks (r .start) ++ decimal n) × (r .start + length (decimal n) ≡ 25) ⌝ }
+{
+    let mut columns = [b' '; 25];
+    let mut rest = n;
+    let mut i = 24;
+    while 10 <= rest {
+        columns[i] = digit((rest % 10) as u8);
+        rest = rest / 10;
+        i -= 1;
+    }
+    columns[i] = digit(rest as u8);
+    Digits { columns, start: i }
+}
+
+// The rule `decimal`.
 pub fn put_decimal(n: usize, at: usize, out: &mut [u8]) -> usize
     ensures { λ r. ⌜ Puts (decimal n) at (now (out .entry)) r (now (out .exit)) ⌝ }
 {
-    if n < 10 {
-        return put(digit(n as u8), at, out);
-    }
-    let last = put_decimal(n / 10, at, out);
-    put(digit((n % 10) as u8), last, out)
+    let d = digits_of(n);
+    let columns = d.columns;
+    let start = d.start;
+    put_word(&columns[start..], at, out)
 }
 
 // A blank and the rule `hexadecimal`.

@@ -1,3 +1,2 @@
 -- Laws that the proofs share.
-pub mod Columns
 pub mod Turns

@@ -1,31 +1,35 @@
 -- The turns of the loop that puts the lines: the part of the output from the line's place on is lent, and comes back with the line at its front.
 use Prim.Native.Nat.{ℕ, _+_, _-_, _*_, _≤_}
 use mathlib.Core.Path.{_≡_, ap, sym, _∙_}
-use mathlib.Core.List.{List, _++_}
+use mathlib.Core.List.{List, [], _++_, append-nil}
 use native.Mathlib.Nat.{zero-add}
 use native.Mathlib.Omega.{arith}
-use lib.ListN.{length, take, drop, length-drop}
-use lib.Seq.{sets, sets-eq, length-sets}
+use lib.ListN.{length, take, drop, drop-of-length-le}
+use lib.Seq.{sets, sets-eq, length-sets, length-take-le}
 use Rattle.rules.specs.Sheet.{over}
 use Rattle.rules.specs.Pages.{lineBytes, pageLines, pageBytes, pageCount, pageLine, joined, pagesOf}
-use Rattle.rules.proofs.Parts.{came-back, part-all}
+use Rattle.rules.proofs.Parts.{came-back}
 use Rattle.rules.proofs.Pages.{length-line, length-joined, joined-more, all-lines, length-pages}
 use Rattle.digits.specs.Places.{Puts}
 use Rattle.digits.proofs.Places.{sets-append, sets-front, from-front}
 
--- a text at the front of a part stands at the part's place in the whole
-put-part : (place : ℕ) (l x : List ℕ) {next : ℕ} {w : List ℕ}
-    → place + length x ≤ length l → Puts x 0 (take (length l - place) (drop place l)) next w
-    → take place l ++ (w ++ drop (length l - place) (drop place l)) ≡ sets l place x
-put-part place l x h p =
-    let part = length-drop place l in
-    rw (from-front (rw part-all (omega arith)) p .1) (came-back place x l ∙ sym (sets-eq x l place h))
+-- a line put into the first 28 bytes
+pub front-line : (line out : List ℕ) {text w : List ℕ} {next : ℕ}
+    → length line ≡ lineBytes → lineBytes ≤ length out → line ≡ text → Puts text 0 (take lineBytes out) next w
+    → w ++ drop lineBytes out ≡ over line out
+front-line line out {text} {w} {next} e h same p =
+    let part = length-take-le lineBytes out h in
+    let put : Puts line 0 (take lineBytes out) next w = rw same p in
+    let all = from-front {text = line} {before = take lineBytes out} (omega arith) put .1 in
+    let nothing : drop (length line) (take lineBytes out) ≡ [] = drop-of-length-le (take lineBytes out) {i = length line} (omega arith) in
+    ap (λ (l : List ℕ). l ++ drop lineBytes out) (all ∙ ap (λ (l : List ℕ). line ++ l) nothing ∙ append-nil line)
+    ∙ ap (λ k. line ++ drop k out) (sym e)
 
 -- line j after the first j lines
-pub one-line : (n : ℕ) (records : List ℕ) (j : ℕ) (before out : List ℕ) {w : List ℕ} {next : ℕ}
+pub one-line : (n : ℕ) (records : List ℕ) (j : ℕ) (before out : List ℕ) {w : List ℕ}
     → lineBytes * (j + 1) ≤ length before
     → out ≡ sets before 0 (joined (pageLine n records) j 0)
-    → Puts (pageLine n records j) 0 (take (length out - lineBytes * j) (drop (lineBytes * j) out)) next w
+    → w ≡ over (pageLine n records j) (take (length out - lineBytes * j) (drop (lineBytes * j) out))
     → take (lineBytes * j) out ++ (w ++ drop (length out - lineBytes * j) (drop (lineBytes * j) out)) ≡ sets before 0 (joined (pageLine n records) (j + 1) 0)
 one-line n records j before out h e p =
     let lines = joined (pageLine n records) j 0 in
@@ -33,11 +37,12 @@ one-line n records j before out h e p =
     let same : length out ≡ length before = ap length e ∙ length-sets before 0 lines in
     let long = length-line n records j in
     let place : 0 + length lines ≡ lineBytes * j = zero-add (length lines) ∙ length-joined (pageLine n records) lineBytes (length-line n records) j 0 in
-    put-part (lineBytes * j) out line (omega arith) p
-    ∙ ap (λ (l : List ℕ). sets l (lineBytes * j) line) e
-    ∙ ap (λ k. sets (sets before 0 lines) k line) (sym place)
+    rw p
+    (came-back (lineBytes * j) line out
+    ∙ sym (sets-eq line out (lineBytes * j) (omega arith))
+    ∙ (λ k. sets (e k) (sym place k) line)
     ∙ sym (sets-append lines line before 0)
-    ∙ ap (sets before 0) (sym (joined-more (pageLine n records) j))
+    ∙ ap (sets before 0) (sym (joined-more (pageLine n records) j)))
 
 -- all lines are put
 pub all-put : (n : ℕ) (records : List ℕ) (j : ℕ) (before out : List ℕ)

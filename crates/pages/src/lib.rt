@@ -4,27 +4,27 @@ ghost use mathlib.Core.Path.{_≡_};
 ghost use mathlib.Core.List.{[], _∷_, _++_};
 ghost use Prim.Native.Nat.{_+_, _*_, _≤_, _<_};
 ghost use lib.ListN.{length, drop};
+ghost use Rattle.rules.specs.Sheet.{over};
 ghost use Rattle.rules.specs.Printout.{lineFeed, decimal};
 ghost use Rattle.rules.specs.Pages.{leftIn, rightIn, stateName, recordColumns, pageCount, pageLine};
 ghost use Rattle.digits.specs.Places.{Puts};
 ghost use Rattle.pages.specs.Output.{laidOut};
+use digits::digits_of;
 use digits::put;
-use digits::put_decimal;
 use digits::put_hexadecimal;
 use digits::put_word;
 use digits::wide;
 
 // ---- columns
 
-// The rule `rightIn`, of a number's digits: the last bytes of so many blanks and the digits. 25 bytes hold 5 blanks and the longest number.
+// The rule `rightIn`, of a number's digits: the last of its columns.
 fn put_right(n: usize, width: usize, at: usize, out: &mut [u8]) -> usize
     requires { ⌜ width ≤ 5 ⌝ }
     ensures { λ r. ⌜ Puts (rightIn width (decimal n)) at (now (out .entry)) r (now (out .exit)) ⌝ }
 {
-    let mut columns = [b' '; 25];
-    let end = put_decimal(n, width, &mut columns);
-    let start = end - width;
-    put_word(&columns[start..end], at, out)
+    let columns = digits_of(n).columns;
+    let start = 25 - width;
+    put_word(&columns[start..], at, out)
 }
 
 // The rules `leftIn` and `stateName`: the name of a state in 12 columns.
@@ -64,16 +64,16 @@ fn put_record(index: usize, records: &[u8], out: &mut [u8]) -> usize
     put(b'\n', next, out)
 }
 
-// The rule `pageLine`.
-fn put_line(n: usize, records: &[u8], j: usize, out: &mut [u8]) -> usize
-    requires { ⌜ 4 * n ≤ length (now records) ⌝ }
-    ensures { λ r. ⌜ Puts (pageLine n (now (records .entry)) j) 0 (now (out .entry)) r (now (out .exit)) ⌝ }
+// The rule `pageLine`, in the first 28 bytes of the part.
+fn put_line(n: usize, records: &[u8], j: usize, out: &mut [u8])
+    requires { ⌜ (4 * n ≤ length (now records)) × (28 ≤ length (now out)) ⌝ }
+    ensures { λ _. ⌜ now (out .exit) ≡ over (pageLine n (now (records .entry)) j) (now (out .entry)) ⌝ }
 {
     if j < n {
-        return put_record(j, records, out);
+        put_record(j, records, &mut out[..28]);
+        return;
     }
-    let end = put_word(b"                           ", 0, out);
-    put(b'\n', end, out)
+    put_word(b"                           \n", 0, &mut out[..28]);
 }
 
 // ---- pages

@@ -1,5 +1,5 @@
 -- Every line has 27 columns that can be printed, and a line feed.
-use Prim.Native.Nat.{ℕ, zero, suc, _+_, _*_, _/_, _%_, _≤_, _<_}
+use Prim.Native.Nat.{ℕ, zero, suc, _+_, _/_, _%_, _≤_, _<_}
 use mathlib.Core.Path.{_≡_, refl, ap, _∙_}
 use mathlib.Core.Bool.{Bool, true, _&&_}
 use mathlib.Core.List.{List, [], _∷_, _++_}
@@ -117,9 +117,10 @@ whole-line columns e p =
       feed = drop-at columns (lineFeed ∷ []) lineColumns e;
     }
 
+record-line : (index : ℕ) (r : List ℕ) → Line (recordColumns index r ++ lineFeed ∷ [])
+record-line index r = whole-line (recordColumns index r) (length-columns index r) (record-columns index r)
+
 pub lines : Lines
 unfolding pageLine
 lines n records j =
-    if-case (λ (columns : List ℕ). Line (columns ++ lineFeed ∷ [])) (ltb j n)
-    (λ t. whole-line (recordColumns j (drop (4 * j) records)) (length-columns j (drop (4 * j) records)) (record-columns j (drop (4 * j) records)))
-    (λ t. whole-line (blanks lineColumns) refl (some-blanks lineColumns))
+    if-case (λ (columns : List ℕ). Line (columns ++ lineFeed ∷ [])) (ltb j n) (λ t. record-line _ _) (λ t. whole-line (blanks lineColumns) refl (some-blanks lineColumns))
