@@ -45,7 +45,7 @@ fn name_of(state: u8) -> [u8; 12]
 // ---- lines, each at the front of a part of the output
 
 // The rule `recordColumns` and a line feed, of the record with this index among the records.
-fn put_record(index: usize, records: &[u8], out: &mut [u8]) -> usize
+fn put_columns(index: usize, records: &[u8], out: &mut [u8]) -> usize
     requires { ⌜ 4 * index + 3 < length (now records) ⌝ }
     ensures { λ r. ⌜ Puts (recordColumns index (drop (4 * index) (now (records .entry))) ++ lineFeed ∷ []) 0 (now (out .entry)) r (now (out .exit)) ⌝ }
 {
@@ -70,7 +70,7 @@ fn put_line(n: usize, records: &[u8], j: usize, out: &mut [u8])
     ensures { λ _. ⌜ now (out .exit) ≡ over (pageLine n (now (records .entry)) j) (now (out .entry)) ⌝ }
 {
     if j < n {
-        put_record(j, records, &mut out[..28]);
+        put_columns(j, records, &mut out[..28]);
         return;
     }
     put_word(b"                           \n", 0, &mut out[..28]);

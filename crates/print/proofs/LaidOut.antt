@@ -9,10 +9,10 @@ use borrow.Author.Tests.{le-ltb}
 use Rattle.rules.specs.Sheet.{recordCount, front, over}
 use Rattle.rules.specs.Pages.{pageBytes, pageCount, pagesOf}
 use Rattle.rules.proofs.Sheets.{outputs}
-use Rattle.rules.proofs.Prints.{Passed}
+use Rattle.rules.proofs.Prints.{PrintPassed}
 use Rattle.pages.specs.Output.{laidOut}
 
-pub laid-out : (s records pages : List ℕ) → Passed s (length records) (length pages)
+pub laid-out : (s records pages : List ℕ) → PrintPassed s (length records) (length pages)
     → laidOut (front s (length records)) pages ≡ over (pagesOf (recordCount s) (front s (length records))) pages
 unfolding laidOut
 laid-out s records pages p =

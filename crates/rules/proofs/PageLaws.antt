@@ -12,13 +12,13 @@ use Rattle.rules.specs.Printout.{lineFeed}
 use Rattle.rules.specs.Sheet.{settingsCount, eventsAt, eventsCount, sheetEnd, recordCount, front, over, outputAfter}
 use Rattle.rules.specs.Records.{byteOf}
 use Rattle.rules.specs.Pages.{recordColumns, lineBytes, pageLines, pageBytes, pageCount, pageLine, joined, page, pagesOf, printCheck, Print, print}
-use Rattle.rules.specs.PageLaws.{Filled, FullPages, PageCount, Texts, Prints, Refusals, AtMost, PageLaws}
+use Rattle.rules.specs.PageLaws.{Filled, FullPages, PageCount, Texts, PrintRan, PrintRefused, AtMost, PageLaws}
 use Rattle.rules.proofs.Tests.{if-case}
 use Rattle.rules.proofs.Sheets as sheets
 use Rattle.rules.proofs.Sheets.{outputs}
 use Rattle.rules.proofs.RecordBytes.{each-record}
 use Rattle.rules.proofs.Pages.{length-line, length-page, length-pages, joined-at, all-lines}
-use Rattle.rules.proofs.Prints.{passed, ran, refused}
+use Rattle.rules.proofs.Prints.{print-passed, ran, refused}
 use Rattle.rules.proofs.Printable.{lines}
 use Rattle.rules.proofs.ReadBack.{read-line}
 
@@ -65,8 +65,8 @@ number-is s records pages =
     let number = printCheck s (length records) (length pages) in
     if-case (λ (p : Print). p .number ≡ number) (eqb number 0) (λ t. sym (eqb-true number 0 t)) (λ f. refl)
 
-refusals : Refusals
-refusals s records pages n =
+print-refused : PrintRefused
+print-refused s records pages n =
     let r = refused s records pages (λ z. n (number-is s records pages ∙ z)) in
     record { recordsKept = ap (λ (p : Print). p .records) r; pagesKept = ap (λ (p : Print). p .pages) r }
 
@@ -92,10 +92,10 @@ line-in n records output i h =
     rw (drop-append-le (lineBytes * i) text rest (omega arith), take-append-le lineBytes (drop (lineBytes * i) text) rest (omega arith), all-lines n records)
     (joined-at (pageLine n records) lineBytes (length-line n records) (pageLines * pageCount n) 0 i below ∙ ap (pageLine n records) (zero-add i) ∙ line)
 
-prints : Prints
-prints s records pages e =
+print-ran : PrintRan
+print-ran s records pages e =
     let zero = sym (number-is s records pages) ∙ e in
-    let p = passed s (length records) (length pages) zero in
+    let p = print-passed s (length records) (length pages) zero in
     let fits = outputs s records (p .runs) in
     let n = recordCount s in
     let f = front s (length records) in
@@ -126,7 +126,7 @@ page-laws =
       fullPages = full-pages;
       pageCount = page-count;
       texts = texts;
-      prints = prints;
-      refusals = refusals;
+      printRan = print-ran;
+      printRefused = print-refused;
       atMost = at-most;
     }

@@ -10,13 +10,13 @@ use Rattle.rules.specs.Pages.{pageBytes, pageCount, pagesOf, printCheck,
 use Rattle.rules.proofs.Tests.{by-test, clash, unrefused}
 
 -- what a sheet has passed that is run and printed
-pub record Passed (s : List ℕ) (room pageRoom : ℕ) : Type 0 where
+pub record PrintPassed (s : List ℕ) (room pageRoom : ℕ) : Type 0 where
   pub runs : check s room ≡ 0
   pub paper : pageBytes * pageCount (recordCount s) ≤ pageRoom
 
-pub passed : (s : List ℕ) (room pageRoom : ℕ) → printCheck s room pageRoom ≡ 0 → Passed s room pageRoom
+pub print-passed : (s : List ℕ) (room pageRoom : ℕ) → printCheck s room pageRoom ≡ 0 → PrintPassed s room pageRoom
 unfolding printCheck
-passed s room pageRoom e =
+print-passed s room pageRoom e =
     by-test (eqb (check s room) 0)
     (λ t. record {
       runs = eqb-true (check s room) 0 t;

@@ -1,5 +1,5 @@
 -- What holds in every state that events lead to from a fresh unit, and other laws of the rules, as statements. The last definition, `Laws`, has them all, and is
--- proved in proofs/Laws.antt.
+-- proved in proofs/Laws.antt. The laws of the printed pages stand in PageLaws.
 use Prim.Native.Nat.{ℕ, _+_, _-_, _*_, _/_, _%_, _≤_, _<_, min}
 use mathlib.Core.Path.{_≡_}
 use mathlib.Core.Logic.{_⊎_}

@@ -1,5 +1,5 @@
--- Document 01 as definitions, in reading order: Events to Printout are its sections or parts of them, over the words of Words.
--- From Table on stand statements about the rules: the traps avoided, the laws, and last the promise of service, also in the records of a sheet.
+-- Document 01 as definitions, in reading order: Events to Printout are its sections or parts of them, over the words of Words. Pages is #101 of document 02.
+-- From Table on stand statements about the rules: the traps avoided, the laws, the promise of service, also in the records of a sheet, and the laws of the pages.
 pub mod Words
 pub mod Events
 pub mod Monitors

@@ -114,16 +114,16 @@ pub record Printed (s records pages : List ℕ) : Type 0 where
   pub readBack : (i : ℕ) → i < recordCount s
       → lineRead (take lineBytes (drop (lineBytes * i) (print s records pages .pages))) ≡ shownBy (print s records pages .records) i
 
-abbrev pub Prints : Type 0
-Prints = (s records pages : List ℕ) → print s records pages .number ≡ 0 → Printed s records pages
+abbrev pub PrintRan : Type 0
+PrintRan = (s records pages : List ℕ) → print s records pages .number ≡ 0 → Printed s records pages
 
 -- it was refused: both outputs are as they were
 pub record Left (s records pages : List ℕ) : Type 0 where
   pub recordsKept : print s records pages .records ≡ records
   pub pagesKept : print s records pages .pages ≡ pages
 
-abbrev pub Refusals : Type 0
-Refusals = (s records pages : List ℕ) → (print s records pages .number ≡ 0 → ⊥) → Left s records pages
+abbrev pub PrintRefused : Type 0
+PrintRefused = (s records pages : List ℕ) → (print s records pages .number ≡ 0 → ⊥) → Left s records pages
 
 -- a sheet that runs has at most 8,383 records, and so 168 pages
 pub record Most (s : List ℕ) : Type 0 where
@@ -141,6 +141,6 @@ pub record PageLaws : Type 0 where
   pub fullPages : FullPages
   pub pageCount : PageCount
   pub texts : Texts
-  pub prints : Prints
-  pub refusals : Refusals
+  pub printRan : PrintRan
+  pub printRefused : PrintRefused
   pub atMost : AtMost

@@ -11,8 +11,8 @@ use Rattle.pages.proofs.Turns.{front-line}
 use Rattle.pages.proofs.put_line.Statement.{statement}
 use Rattle.pages.proofs.put_line.Tie as tie
 
-slice-aggregate-put-record : tie.Need-slice-aggregate-put-record
-slice-aggregate-put-record c = sym (length-take-le 28 (now (c .before .before .before .before .args .out)) (omega arith))
+slice-aggregate-put-columns : tie.Need-slice-aggregate-put-columns
+slice-aggregate-put-columns c = sym (length-take-le 28 (now (c .before .before .before .before .args .out)) (omega arith))
 
 returns : tie.Need-returns
 unfolding pageLine
@@ -20,7 +20,7 @@ returns c =
     let put = c .before .before in
     let a = put .before .before .before .before .before .args in
     front-line (pageLine (a .n) (now (a .records)) (a .j)) (now (a .out)) (length-line (a .n) (now (a .records)) (a .j)) (omega arith)
-    (rw (lt-ltb (a .j) (a .n) (put .before .before .if1 .taken)) refl) (put .put-record .ensures)
+    (rw (lt-ltb (a .j) (a .n) (put .before .before .if1 .taken)) refl) (put .put-columns .ensures)
 
 slice-aggregate-put-word-2 : tie.Need-slice-aggregate-put-word-2
 slice-aggregate-put-word-2 c = sym (length-take-le 28 (now (c .before .before .before .before .before .args .out)) (omega arith))
@@ -36,5 +36,5 @@ returns-2 c =
 pub put-line-spec : {M : Type 1} → statement M
 put-line-spec =
     tie.close
-    (tie.spec (search needs) slice-aggregate-put-record (search needs) (search needs) returns (search needs) (search needs) slice-aggregate-put-word-2
+    (tie.spec (search needs) slice-aggregate-put-columns (search needs) (search needs) returns (search needs) (search needs) slice-aggregate-put-word-2
     (search needs) (search needs) returns-2)

@@ -1,12 +1,13 @@
 -- The sheet's own number; else 13 or 0 by the pages that its counts give.
-use Prim.Native.Nat.{ℕ, _*_}
+use Prim.Native.Nat.{_*_}
 use mathlib.Core.Path.{_≡_, refl, ap, sym, _∙_}
-use mathlib.Core.List.{List}
 use native.Mathlib.Omega.{arith}
+use lib.Dec.{ltb}
 use denote.Ref.{now}
 use borrow.Author.Needs.{needs}
 use borrow.Author.Tests.{lt-ltb, le-ltb, eq-eqb, ne-eqb}
-use Rattle.rules.specs.Sheet.{recordCount, check}
+use Rattle.rules.specs.Words.{if_then_else_}
+use Rattle.rules.specs.Sheet.{recordCount}
 use Rattle.rules.specs.Pages.{pageBytes, pageCount, printCheck}
 use Rattle.print.proofs.print_check.Statement.{statement}
 use Rattle.print.proofs.print_check.Tie as tie
@@ -15,34 +16,23 @@ returns : tie.Need-returns
 unfolding printCheck
 returns c = rw (← (c .before .check .ensures), ne-eqb (c .before .check .result) 0 (c .if1 .taken)) refl
 
--- the sheet will run, and needs so many pages
-record Counted (s : List ℕ) (room pages : ℕ) : Type 0 where
-  runs : check s room ≡ 0
-  needed : pages ≡ pageCount (recordCount s)
-
-counted : (c : tie.After-page-count) → let a = c .before .before .before .before .before .before .args in Counted (now (a .sheet)) (a .room) (c .page-count .result)
-unfolding recordCount
-counted c =
+-- the sheet will run, and its pages are counted
+by-pages : (c : tie.After-page-count)
+    → let a = c .before .before .before .before .before .before .args in
+    printCheck (now (a .sheet)) (a .room) (a .paper) ≡ (if ltb (a .paper) (pageBytes * c .page-count .result) then 13 else 0)
+unfolding printCheck recordCount
+by-pages c =
     let counts = c .before .before .counts-of .ensures in
     let else1 = c .before .before .before in
-    record {
-      runs = sym (else1 .before .check .ensures) ∙ else1 .if1 .left;
-      needed = c .page-count .ensures ∙ ap pageCount (omega (arith, counts .0 .0, counts .0 .1));
-    }
+    let needed : c .page-count .result ≡ pageCount (recordCount (now (else1 .before .before .before .args .sheet))) =
+    c .page-count .ensures ∙ ap pageCount (omega (arith, counts .0 .0, counts .0 .1)) in
+    rw (eq-eqb _ _ (sym (else1 .before .check .ensures) ∙ else1 .if1 .left), ← needed) refl
 
 returns-2 : tie.Need-returns-2
-unfolding printCheck
-returns-2 c =
-    let k = counted (c .before) in
-    let a = c .before .before .before .before .before .before .before .args in
-    rw (eq-eqb _ _ (k .runs), lt-ltb (a .paper) (pageBytes * pageCount (recordCount (now (a .sheet)))) (omega (arith, k .needed))) refl
+returns-2 c = sym (by-pages (c .before) ∙ ap (λ b. if b then 13 else 0) (lt-ltb _ (pageBytes * c .before .page-count .result) (omega arith)))
 
 returns-3 : tie.Need-returns-3
-unfolding printCheck
-returns-3 c =
-    let k = counted (c .before) in
-    let a = c .before .before .before .before .before .before .before .args in
-    rw (eq-eqb _ _ (k .runs), le-ltb (a .paper) (pageBytes * pageCount (recordCount (now (a .sheet)))) (omega (arith, k .needed))) refl
+returns-3 c = sym (by-pages (c .before) ∙ ap (λ b. if b then 13 else 0) (le-ltb _ (pageBytes * c .before .page-count .result) (omega arith)))
 
 pub print-check-spec : {M : Type 1} → statement M
 print-check-spec = tie.close (tie.spec (search needs) returns (search needs) (search needs) (search needs) returns-2 returns-3)

@@ -9,7 +9,7 @@ use borrow.Author.Needs.{needs}
 use Rattle.rules.specs.Sheet.{front}
 use Rattle.rules.specs.Pages.{printCheck}
 use Rattle.rules.proofs.Sheets.{outputs, front-part}
-use Rattle.rules.proofs.Prints.{passed, ran, refused}
+use Rattle.rules.proofs.Prints.{print-passed, ran, refused}
 use Rattle.pages.specs.Output.{laidOut}
 use Rattle.print.proofs.LaidOut.{laid-out}
 use Rattle.print.proofs.sheet_print.Statement.{statement}
@@ -41,7 +41,7 @@ slice-reshare-prefix-lay-out : tie.Need-slice-reshare-prefix-lay-out
 slice-reshare-prefix-lay-out c =
     let run = c .before .before in
     let a = run .before .before .before .before .before .before .before .args in
-    let fits = outputs (now (a .sheet)) (now (a .records)) (passed (now (a .sheet)) _ _ (ran-part run .zero) .runs) in
+    let fits = outputs (now (a .sheet)) (now (a .records)) (print-passed (now (a .sheet)) _ _ (ran-part run .zero) .runs) in
     omega (arith, run .run-into .ensures .0, ap length (run .run-into .ensures .1), fits .written, fits .within, fits .kept)
 
 slice-aggregate-lay-out : tie.Need-slice-aggregate-lay-out
@@ -54,7 +54,7 @@ returns-2 c =
     let a = run .before .before .before .before .before .before .before .args in
     let r = ran-part run in
     let s = now (a .sheet) in
-    let pages = laid .lay-out .ensures ∙ ap (λ (l : List ℕ). laidOut l (now (a .pages))) (r .part) ∙ laid-out s (now (a .records)) (now (a .pages)) (passed s _ _ (r .zero)) in
+    let pages = laid .lay-out .ensures ∙ ap (λ (l : List ℕ). laidOut l (now (a .pages))) (r .part) ∙ laid-out s (now (a .records)) (now (a .pages)) (print-passed s _ _ (r .zero)) in
     rw (run .run-into .ensures .1, pages) (sym (ran s (now (a .records)) (now (a .pages)) (r .zero)))
 
 pub sheet-print-spec : {M : Type 1} → statement M

@@ -5,8 +5,8 @@ use borrow.Author.Needs.{needs}
 use Rattle.rules.specs.Pages.{recordColumns}
 use Rattle.digits.proofs.Places as puts
 use Rattle.digits.proofs.Places.{then}
-use Rattle.pages.proofs.put_record.Statement.{statement}
-use Rattle.pages.proofs.put_record.Tie as tie
+use Rattle.pages.proofs.put_columns.Statement.{statement}
+use Rattle.pages.proofs.put_columns.Tie as tie
 
 returns : tie.Need-returns
 unfolding recordColumns
@@ -32,8 +32,8 @@ returns c =
 same-length : tie.Need-same-length
 same-length c = puts.same-length (returns c)
 
-pub put-record-spec : {M : Type 1} → statement M
-put-record-spec =
+pub put-columns-spec : {M : Type 1} → statement M
+put-columns-spec =
     tie.close
     (tie.spec (search needs) (search needs) (search needs) (search needs) (search needs) (search needs) (search needs) (search needs) (search needs)
     (search needs) (search needs) (search needs) (search needs) (search needs) (search needs) (search needs) (search needs) (search needs) (search needs)
