@@ -3,10 +3,11 @@
 ghost use mathlib.Core.Path.{_≡_};
 ghost use mathlib.Core.List.{[], _∷_, _++_};
 ghost use Prim.Native.Nat.{_+_, _*_, _≤_, _<_};
+ghost use lib.Dec.{ltb};
 ghost use lib.ListN.{length, drop};
 ghost use Rattle.rules.specs.Sheet.{over};
 ghost use Rattle.rules.specs.Printout.{lineFeed, decimal};
-ghost use Rattle.rules.specs.Pages.{leftIn, rightIn, stateName, recordColumns, pageCount, pageLine};
+ghost use Rattle.rules.specs.Pages.{leftIn, rightIn, stateName, recordColumns, pageBytes, pageCount, pageLine};
 ghost use Rattle.digits.specs.Places.{Puts};
 ghost use Rattle.pages.specs.Output.{laidOut};
 use digits::digits_of;
@@ -14,6 +15,13 @@ use digits::put;
 use digits::put_hexadecimal;
 use digits::put_word;
 use digits::wide;
+
+// A line, with its line feed; a page.
+const LINE_BYTES: usize = 28;
+
+const PAGE_LINES: usize = 50;
+
+const PAGE_BYTES: usize = 1400;
 
 // ---- columns
 
@@ -64,25 +72,36 @@ fn put_columns(index: usize, records: &[u8], out: &mut [u8]) -> usize
     put(b'\n', next, out)
 }
 
-// The rule `pageLine`, in the first 28 bytes of the part.
+// The rule `pageLine`, in the bytes of a line at the front of the part.
 fn put_line(n: usize, records: &[u8], j: usize, out: &mut [u8])
     requires { ⌜ (4 * n ≤ length (now records)) × (28 ≤ length (now out)) ⌝ }
     ensures { λ _. ⌜ now (out .exit) ≡ over (pageLine n (now (records .entry)) j) (now (out .entry)) ⌝ }
 {
     if j < n {
-        put_columns(j, records, &mut out[..28]);
+        put_columns(j, records, &mut out[..LINE_BYTES]);
         return;
     }
-    put_word(b"                           \n", 0, &mut out[..28]);
+    put_word(b"                           \n", 0, &mut out[..LINE_BYTES]);
 }
 
 // ---- pages
 
 // The rule `pageCount`.
-pub fn page_count(n: usize) -> usize
+fn page_count(n: usize) -> usize
     ensures { λ r. ⌜ r ≡ pageCount n ⌝ }
 {
-    if n % 50 == 0 { n / 50 } else { n / 50 + 1 }
+    if n % PAGE_LINES == 0 {
+        n / PAGE_LINES
+    } else {
+        n / PAGE_LINES + 1
+    }
+}
+
+// Whether an output of so many bytes is too short for the pages of n records.
+pub fn too_short(n: usize, room: usize) -> bool
+    ensures { λ r. ⌜ r ≡ ltb room (pageBytes * pageCount n) ⌝ }
+{
+    room / PAGE_BYTES < page_count(n)
 }
 
 // The rule `pagesOf`: the pages of all records over the front of the output, if it has room for them.
@@ -90,14 +109,13 @@ pub fn lay_out(records: &[u8], out: &mut [u8])
     ensures { λ _. ⌜ now (out .exit) ≡ laidOut (now (records .entry)) (now (out .entry)) ⌝ }
 {
     let n = records.len() / 4;
-    let count = page_count(n);
-    if out.len() / 1400 < count {
+    if too_short(n, out.len()) {
         return;
     }
-    let lines = 50 * count;
+    let lines = PAGE_LINES * page_count(n);
     let mut j = 0;
     while j < lines {
-        let place = 28 * j;
+        let place = LINE_BYTES * j;
         put_line(n, records, j, &mut out[place..]);
         j += 1;
     }

@@ -13,7 +13,7 @@ fn print_check(sheet: &[u8], room: usize, paper: usize) -> u8
         return number;
     }
     let c = sheet::counts_of(sheet);
-    if paper / 1400 < pages::page_count(c.settings + c.events) {
+    if pages::too_short(c.settings + c.events, paper) {
         return 13;
     }
     0
