@@ -7,14 +7,18 @@ use denote.Ref.{now}
 use borrow.Author.Needs.{needs}
 use borrow.Author.Tests.{eq-eqb, ne-eqb}
 use Rattle.rules.specs.Words.{if_then_else_}
-use Rattle.rules.specs.Sheet.{recordCount}
+use Rattle.rules.specs.Sheet.{recordCount, check}
 use Rattle.rules.specs.Pages.{pageBytes, pageCount, printCheck}
 use Rattle.print.proofs.print_check.Statement.{statement}
 use Rattle.print.proofs.print_check.Tie as tie
 
 returns : tie.Need-returns
 unfolding printCheck
-returns c = rw (← (c .before .check .ensures), ne-eqb (c .before .check .result) 0 (c .if1 .taken)) refl
+returns c =
+    let checked = c .before in
+    let a = checked .before .before .args in
+    let number : checked .check .result ≡ check (now (a .sheet)) (a .room) = checked .check .ensures in
+    rw (← number, ne-eqb (checked .check .result) 0 (c .if1 .taken)) refl
 
 -- the sheet will run
 by-pages : (c : tie.After-too-short)
