@@ -6,7 +6,7 @@
  * The host owns a unit's state. It makes one with unit_fresh, lends it to unit_event for each event and to unit_read for each read, and writes it by
  * nothing else. A tick is 128 ms. Document 01 says what each event does and what each register shows.
  *
- * The interface is the registers, by unit_read, and the records of a run sheet. The fields of struct unit are for the eye: they may change from one version
+ * The interface is the registers, by unit_read, and the records and pages of a run sheet. The fields of struct unit are for the eye: they may change from one version
  * to the next, and what is said of them here holds of a unit that is kept so.
  */
 #ifndef CONTROLLER_H

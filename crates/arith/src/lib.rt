@@ -62,6 +62,12 @@ pub fn wide32(x: u8) -> u32
     x as u32
 }
 
+pub fn wide64(x: u8) -> usize
+    ensures { λ r. ⌜ (r ≡ x) × (r < 256) ⌝ }
+{
+    x as usize
+}
+
 // What a test adds to a mask: the value of its bit, or 0.
 pub fn weigh(c: bool, v: u8) -> u8
     ensures { λ r. ⌜ (r ≡ (if c then v else 0)) × (r ≤ v) ⌝ }

@@ -6,7 +6,7 @@ use Rattle.rules.specs.Sheet.{outputAfter}
 use Rattle.rules.specs.Printout.{ascii}
 use Rattle.rules.specs.Pages.{Print, print, recordColumns, pageCount, pagesOf}
 use Rattle.rules.specs.Table.{Row, _is_, Holds}
-use Rattle.cases.specs.ExampleSheet.{sheet}
+use Rattle.cases.specs.ExampleSheet.{sheet, lent}
 
 abbrev pub blankLines : ℕ → List ℕ
 blankLines zero = []
@@ -20,13 +20,9 @@ page =
     ++ ascii "    2 Free Run      0  5 03\n"
     ++ blankLines 47
 
--- an output of n bytes, before the call
-abbrev lent : ℕ → List ℕ
-lent n = replicate n 0xff
-
 -- a call that left both outputs
-abbrev refused : ℕ → List ℕ → List ℕ → Print
-refused number records pages = record { number = number; records = records; pages = pages }
+abbrev left : ℕ → List ℕ → List ℕ → Print
+left number records pages = record { number = number; records = records; pages = pages }
 
 unfoldable pub table : List Row
 table =
@@ -34,11 +30,11 @@ table =
     print sheet (lent 12) (lent 1_400) is record { number = 0; records = outputAfter sheet (lent 12); pages = page }
     ∷ print sheet (lent 14) (lent 1_402) is record { number = 0; records = outputAfter sheet (lent 14); pages = page ++ 0xff ∷ 0xff ∷ [] }
     -- 13 for either output, after the sheet's own numbers
-    ∷ print sheet (lent 11) (lent 1_400) is refused 13 (lent 11) (lent 1_400)
-    ∷ print sheet (lent 12) (lent 1_399) is refused 13 (lent 12) (lent 1_399)
-    ∷ print (take 21 sheet) (lent 0) (lent 0) is refused 10 (lent 0) (lent 0)
+    ∷ print sheet (lent 11) (lent 1_400) is left 13 (lent 11) (lent 1_400)
+    ∷ print sheet (lent 12) (lent 1_399) is left 13 (lent 12) (lent 1_399)
+    ∷ print (take 21 sheet) (lent 0) (lent 0) is left 10 (lent 0) (lent 0)
     -- no records, no page
-    ∷ print (replicate 4 0x00) (lent 4) (lent 1_400) is refused 0 (lent 4) (lent 1_400)
+    ∷ print (replicate 4 0x00) (lent 4) (lent 1_400) is left 0 (lent 4) (lent 1_400)
     -- the six states; selected 9 is Free Run as a candidate
     ∷ recordColumns 0 (0 ∷ 0x09 ∷ 0x00 ∷ 0x03 ∷ []) is ascii "    0 Free Run      9  0 03"
     ∷ recordColumns 12 (0 ∷ 0x10 ∷ 0x00 ∷ 0x07 ∷ []) is ascii "   12 Holdover      0  0 07"

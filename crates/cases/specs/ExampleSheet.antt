@@ -28,7 +28,7 @@ records =
     ∷ []
 
 -- an output of n bytes, before the run
-abbrev lent : ℕ → List ℕ
+abbrev pub lent : ℕ → List ℕ
 lent n = replicate n 0xff
 
 -- a sheet with no setting and one event: kind, a, b, the byte after them, and the low byte of the word

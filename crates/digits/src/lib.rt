@@ -1,6 +1,6 @@
 // Numbers as text: one way to write a number in digits (document 01, "Run sheet and rack program").
-// Each text is put at a place of the lent bytes, as much of it as there is room for, and the place after it is returned.
-// Each contract cites a rule of crates/rules/specs/Printout.antt; the rule is named above the function.
+// Each text is put at a place of the lent bytes, as much of it as there is room for, and the place after it is returned (`Puts`).
+// Rules are those of crates/rules/specs/Printout.antt; a function that has one names it.
 ghost use mathlib.Core.Path.{_≡_};
 ghost use mathlib.Core.List.{[], _∷_, _++_};
 ghost use Prim.Native.Nat.{_+_, _<_};
@@ -42,14 +42,8 @@ fn digit(d: u8) -> u8
     if d < 10 { 48 + d } else { 87 + d }
 }
 
-// A byte as a number that `put_decimal` takes.
-pub fn wide(byte: u8) -> usize
-    ensures { λ r. ⌜ r ≡ byte ⌝ }
-{
-    byte as usize
-}
-
-// A number's digits at the end of 25 columns, and the place of the first; the columns before it are blank. No number has more than 20 digits.
+// A number's digits at the end of 25 columns, and the place of the first; the columns before it are blank. A number has at most 20 digits, which leaves five
+// blanks for those who take more columns than it has digits.
 pub struct Digits {
     pub columns: [u8; 25],
     pub start: usize,

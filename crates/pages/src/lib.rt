@@ -1,5 +1,6 @@
 // The pages of a run's records (document 02, #101): lines of 27 columns, 50 to a page, the last page filled.
-// Each contract is an equation with a rule of crates/rules/specs/Pages.antt; the rule is named above the function. `Puts` says that a text is put at a place.
+// Rules are those of crates/rules/specs/Pages.antt; the rule is named above the function. `Puts` says that a text is put at a place, `laidOut` what is left where
+// there is too little room.
 ghost use mathlib.Core.Path.{_≡_};
 ghost use mathlib.Core.List.{[], _∷_, _++_};
 ghost use Prim.Native.Nat.{_+_, _*_, _≤_, _<_};
@@ -10,11 +11,11 @@ ghost use Rattle.rules.specs.Printout.{lineFeed, decimal};
 ghost use Rattle.rules.specs.Pages.{leftIn, rightIn, stateName, recordColumns, pageBytes, pageCount, pageLine};
 ghost use Rattle.digits.specs.Places.{Puts};
 ghost use Rattle.pages.specs.Output.{laidOut};
+use arith::wide64;
 use digits::digits_of;
 use digits::put;
 use digits::put_hexadecimal;
 use digits::put_word;
-use digits::wide;
 
 // A line, with its line feed; a page.
 const LINE_BYTES: usize = 28;
@@ -58,14 +59,14 @@ fn put_columns(index: usize, records: &[u8], out: &mut [u8]) -> usize
     ensures { λ r. ⌜ Puts (recordColumns index (drop (4 * index) (now (records .entry))) ++ lineFeed ∷ []) 0 (now (out .entry)) r (now (out .exit)) ⌝ }
 {
     let place = 4 * index;
-    let refusal = wide(records[place]);
+    let refusal = wide64(records[place]);
     let state = records[place + 1];
     let status = records[place + 3];
     let mut next = put_right(index, 5, 0, out);
     next = put(b' ', next, out);
     next = put_word(&name_of(state / 16), next, out);
     next = put(b' ', next, out);
-    next = put_right(wide(state % 16), 2, next, out);
+    next = put_right(wide64(state % 16), 2, next, out);
     next = put(b' ', next, out);
     next = put_right(refusal, 2, next, out);
     next = put_hexadecimal(status, next, out);
@@ -97,7 +98,7 @@ fn page_count(n: usize) -> usize
     }
 }
 
-// Whether an output of so many bytes is too short for the pages of n records.
+// "a page output under 1,400 bytes a page": whether so many bytes are too few for the pages of n records.
 pub fn too_short(n: usize, room: usize) -> bool
     ensures { λ r. ⌜ r ≡ ltb room (pageBytes * pageCount n) ⌝ }
 {

@@ -28,7 +28,7 @@ pub last-digit : (n : ℕ) → 10 ≤ n → decimal n ≡ decimal (n / 10) ++ di
 unfolding decimal decimalIn
 last-digit n h = rw (add-one n, le-ltb n 10 h, same-digits n (n / 10 + 1) (n / 10) (omega arith) (omega arith)) refl
 
-pub one-more : (n : ℕ) → 10 ≤ n → length (decimal n) ≡ length (decimal (n / 10)) + 1
+one-more : (n : ℕ) → 10 ≤ n → length (decimal n) ≡ length (decimal (n / 10)) + 1
 one-more n h = ap length (last-digit n h) ∙ length-append (decimal (n / 10)) (digit (n % 10) ∷ [])
 
 -- a number below a power of 10 has at most as many digits as the exponent

@@ -7,12 +7,12 @@ use native.Mathlib.Omega.{arith}
 use lib.Dec.{eqb}
 use lib.ListN.{length, getD, take, drop, length-append, length-drop, List·getD-append}
 use lib.Seq.{take-append-le, drop-append-le, getD-drop}
-use borrow.Author.Tests.{lt-ltb, le-ltb, eqb-true}
+use borrow.Author.Tests.{lt-ltb, le-ltb, eq-eqb, ne-eqb, eqb-true}
 use Rattle.rules.specs.Printout.{lineFeed}
-use Rattle.rules.specs.Sheet.{settingsCount, eventsAt, eventsCount, sheetEnd, recordCount, front, over, outputAfter}
+use Rattle.rules.specs.Sheet.{settingsCount, eventsAt, eventsCount, sheetEnd, recordCount, check, front, over, outputAfter}
 use Rattle.rules.specs.Records.{byteOf}
 use Rattle.rules.specs.Pages.{recordColumns, lineBytes, pageLines, pageBytes, pageCount, pageLine, joined, page, pagesOf, printCheck, Print, print}
-use Rattle.rules.specs.PageLaws.{Filled, FullPages, PageCount, Texts, PrintRan, PrintRefused, AtMost, PageLaws}
+use Rattle.rules.specs.PageLaws.{Filled, FullPages, PageCount, Texts, PrintNumber, PrintRan, PrintRefused, AtMost, PageLaws}
 use Rattle.rules.proofs.Tests.{if-case}
 use Rattle.rules.proofs.Sheets as sheets
 use Rattle.rules.proofs.Sheets.{outputs}
@@ -65,6 +65,18 @@ number-is s records pages =
     let number = printCheck s (length records) (length pages) in
     if-case (λ (p : Print). p .number ≡ number) (eqb number 0) (λ t. sym (eqb-true number 0 t)) (λ f. refl)
 
+print-number : PrintNumber
+unfolding printCheck
+print-number s records pages =
+    let own = check s (length records) in
+    let bytes = pageBytes * pageCount (recordCount s) in
+    let number = number-is s records pages in
+    record {
+      own = λ n. number ∙ rw (ne-eqb own 0 n) refl;
+      short = λ e h. number ∙ rw (eq-eqb own 0 e, lt-ltb (length pages) bytes h) refl;
+      long = λ e h. number ∙ rw (eq-eqb own 0 e, le-ltb (length pages) bytes h) refl;
+    }
+
 print-refused : PrintRefused
 print-refused s records pages n =
     let r = refused s records pages (λ z. n (number-is s records pages ∙ z)) in
@@ -102,6 +114,8 @@ print-ran s records pages e =
     let text = pagesOf n f in
     let r = ran s records pages zero in
     record {
+      recordsAre = ap (λ (p : Print). p .records) r;
+      pagesAre = ap (λ (p : Print). p .pages) r;
       recordsLength = rw r (fits .kept);
       pagesLength = rw r (length-append text (drop (length text) pages) ∙ omega (arith, length-pages n f, length-drop (length text) pages, p .paper));
       readBack = λ i h.
@@ -126,6 +140,7 @@ page-laws =
       fullPages = full-pages;
       pageCount = page-count;
       texts = texts;
+      printNumber = print-number;
       printRan = print-ran;
       printRefused = print-refused;
       atMost = at-most;

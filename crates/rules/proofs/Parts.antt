@@ -12,7 +12,7 @@ pub part-all : (a : ℕ) (l : List ℕ) → take (length l - a) (drop a l) ≡ d
 part-all a l = take-all (length l - a) (drop a l) (omega (arith, length-drop a l))
 
 -- nothing lies behind it
-pub part-rest : (a : ℕ) (l : List ℕ) → drop (length l - a) (drop a l) ≡ []
+part-rest : (a : ℕ) (l : List ℕ) → drop (length l - a) (drop a l) ≡ []
 part-rest a l = drop-of-length-le (drop a l) {i = length l - a} (omega (arith, length-drop a l))
 
 -- the whole after the part came back as r over it

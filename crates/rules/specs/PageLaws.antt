@@ -6,7 +6,7 @@ use mathlib.Core.List.{List, [], _∷_, _++_}
 use lib.Dec.{ltb, eqb}
 use lib.ListN.{length, getD, take, drop}
 use Rattle.rules.specs.Words.{if_then_else_}
-use Rattle.rules.specs.Sheet.{recordCount, check}
+use Rattle.rules.specs.Sheet.{recordCount, check, front, over, outputAfter}
 use Rattle.rules.specs.Printout.{lineFeed}
 use Rattle.rules.specs.Pages.{blanks, leftIn, stateNames, lineColumns, lineBytes, pageLines, pageBytes, pageCount, pageLine, page, pagesOf, print}
 use Rattle.rules.specs.Records.{byteOf}
@@ -30,7 +30,7 @@ Lines = (n : ℕ) (records : List ℕ) (j : ℕ) → Line (pageLine n records j)
 
 -- a line behind those of the records is blank
 abbrev pub Filled : Type 0
-Filled = (n : ℕ) (records : List ℕ) (j : ℕ) → n ≤ j → pageLine n records j ≡ blanks 27 ++ lineFeed ∷ []
+Filled = (n : ℕ) (records : List ℕ) (j : ℕ) → n ≤ j → pageLine n records j ≡ blanks lineColumns ++ lineFeed ∷ []
 
 -- 1,400 bytes, 50 lines: page p has the lines from line 50 p on
 pub record FullPage (n : ℕ) (records : List ℕ) (p : ℕ) : Type 0 where
@@ -107,8 +107,20 @@ shownBy records i =
 
 -- ---- the call
 
--- the call ran: both outputs keep their lengths, and line i of the pages reads as record i of the records
+-- the number: the sheet's own, 9 to 13; else 13 if and only if the pages' output is under 1,400 bytes a page
+pub record Answered (s records pages : List ℕ) : Type 0 where
+  pub own : (check s (length records) ≡ 0 → ⊥) → print s records pages .number ≡ check s (length records)
+  pub short : check s (length records) ≡ 0 → length pages < pageBytes * pageCount (recordCount s) → print s records pages .number ≡ 13
+  pub long : check s (length records) ≡ 0 → pageBytes * pageCount (recordCount s) ≤ length pages → print s records pages .number ≡ 0
+
+abbrev pub PrintNumber : Type 0
+PrintNumber = (s records pages : List ℕ) → Answered s records pages
+
+-- the call ran: the records are those of a run, the pages stand over the front of their output; both outputs keep their lengths, and line i of the pages reads
+-- as record i of the records
 pub record Printed (s records pages : List ℕ) : Type 0 where
+  pub recordsAre : print s records pages .records ≡ outputAfter s records
+  pub pagesAre : print s records pages .pages ≡ over (pagesOf (recordCount s) (front s (length records))) pages
   pub recordsLength : length (print s records pages .records) ≡ length records
   pub pagesLength : length (print s records pages .pages) ≡ length pages
   pub readBack : (i : ℕ) → i < recordCount s
@@ -141,6 +153,7 @@ pub record PageLaws : Type 0 where
   pub fullPages : FullPages
   pub pageCount : PageCount
   pub texts : Texts
+  pub printNumber : PrintNumber
   pub printRan : PrintRan
   pub printRefused : PrintRefused
   pub atMost : AtMost

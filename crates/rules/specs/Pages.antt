@@ -1,5 +1,5 @@
 -- Document 02, #101, "Rack printout for the unit's box": the pages of a run's records, byte by byte, and what the call that runs and prints a sheet leaves.
-use Prim.Native.Nat.{ℕ, zero, suc, _+_, _*_, _/_, _%_}
+use Prim.Native.Nat.{ℕ, zero, suc, _+_, _-_, _*_, _/_, _%_}
 use mathlib.Core.List.{List, [], _∷_, _++_}
 use lib.Dec.{ltb, eqb}
 use lib.ListN.{length, getD, take, drop, replicate}
@@ -54,7 +54,7 @@ pageBytes = 1_400
 
 -- as many pages as n records need: "no records, no page"
 unfoldable pub pageCount : ℕ → ℕ
-pageCount n = (n + 49) / pageLines
+pageCount n = (n + (pageLines - 1)) / pageLines
 
 -- Line j of the pages of n records, counted over all of them. "the last is filled with blank lines of 27 spaces. Each line ends with a line feed"
 unfoldable pub pageLine : ℕ → List ℕ → ℕ → List ℕ
@@ -69,7 +69,7 @@ joined text (suc k) j = text j ++ joined text k (j + 1)
 unfoldable pub page : ℕ → List ℕ → ℕ → List ℕ
 page n records p = joined (pageLine n records) pageLines (pageLines * p)
 
--- all pages of n records
+-- all pages of n records: "Every byte of the page is the one this layout gives for the records."
 unfoldable pub pagesOf : ℕ → List ℕ → List ℕ
 pagesOf n records = joined (page n records) (pageCount n) 0
 

@@ -6,11 +6,11 @@ ghost use lib.ListN.{length, drop};
 ghost use Rattle.rules.specs.Printout.{refusedWord, headLine, recordLine};
 ghost use Rattle.digits.specs.Places.{Puts};
 ghost use Rattle.text.specs.Text.{recordsText};
+use arith::wide64;
 use digits::put;
 use digits::put_decimal;
 use digits::put_hexadecimal;
 use digits::put_word;
-use digits::wide;
 
 // The rule `headLine`, at the front.
 fn put_head(word: &[u8], n: usize, out: &mut [u8]) -> usize
@@ -29,7 +29,7 @@ fn put_line(index: usize, records: &[u8], at: usize, out: &mut [u8]) -> usize
     let place = 4 * index;
     let mut next = put_decimal(index, at, out);
     next = put(b' ', next, out);
-    next = put_decimal(wide(records[place]), next, out);
+    next = put_decimal(wide64(records[place]), next, out);
     next = put_hexadecimal(records[place + 1], next, out);
     next = put_hexadecimal(records[place + 2], next, out);
     next = put_hexadecimal(records[place + 3], next, out);
@@ -40,7 +40,7 @@ fn put_line(index: usize, records: &[u8], at: usize, out: &mut [u8]) -> usize
 pub fn refused(number: u8, out: &mut [u8]) -> usize
     ensures { λ r. ⌜ Puts (headLine refusedWord number) 0 (now (out .entry)) r (now (out .exit)) ⌝ }
 {
-    put_head(b"refused ", wide(number), out)
+    put_head(b"refused ", wide64(number), out)
 }
 
 // "`records N`" and a line for each record: the rules `headLine` and `recordLines`.

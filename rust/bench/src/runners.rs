@@ -5,7 +5,7 @@ use model::{BYTES_PER_PAGE, BYTES_PER_RECORD};
 
 /// More records than a sheet can give.
 const RECORDS: usize = 16_384;
-/// More pages than they can take.
+/// More pages than the records of a sheet can take.
 const PAGES: usize = 200;
 
 pub struct Runner {

@@ -26,7 +26,7 @@ returns c =
     let first = then (index .put-right .ensures) (then (gap1 .put .ensures) (name .put-word .ensures)) in
     let second = then first (then (gap2 .put2 .ensures) (selected .put-right2 .ensures)) in
     let third = then second (then (gap3 .put3 .ensures) (refusal .put-right3 .ensures)) in
-    simp (getD-drop, add-zero, ← (wide .wide .ensures), ← (name-of .name-of .ensures), ← (wide2 .wide2 .ensures))
+    simp (getD-drop, add-zero, ← (wide .wide64 .ensures .0), ← (name-of .name-of .ensures), ← (wide2 .wide642 .ensures .0))
     (then (then third (status .put-hexadecimal .ensures)) (feed .put4 .ensures))
 
 same-length : tie.Need-same-length

@@ -20,7 +20,7 @@ returns c =
     let index = gap .before .before .before .before in
     let numbers = then (index .put-decimal .ensures) (then (gap .put .ensures) (refusal .put-decimal2 .ensures)) in
     let bytes = then (then (then numbers (first .put-hexadecimal .ensures)) (second .put-hexadecimal2 .ensures)) (third .put-hexadecimal3 .ensures) in
-    simp (getD-drop, add-zero, ← (wide .wide .ensures)) (then bytes (feed .put2 .ensures))
+    simp (getD-drop, add-zero, ← (wide .wide64 .ensures .0)) (then bytes (feed .put2 .ensures))
 
 pub put-line-spec : {M : Type 1} → statement M
 put-line-spec =

@@ -8,7 +8,7 @@ returns : tie.Need-returns
 unfolding refusedWord
 returns c =
     let head = c .before .before in
-    rw (← (head .before .before .wide .ensures)) (head .put-head .ensures)
+    rw (← (head .before .before .wide64 .ensures .0)) (head .put-head .ensures)
 
 pub refused-spec : {M : Type 1} → statement M
 refused-spec = tie.close (tie.spec (search needs) (search needs) (search needs) (search needs) returns)

@@ -128,7 +128,7 @@ fn a_page_has_50_lines_and_the_last_is_filled() {
     }
 }
 
-/// "8,383 records": their last lines, on the last page.
+/// The most records that a sheet gives: the last lines, on the last page.
 #[test]
 fn the_most_records() {
     let (_, _, text) = printed(&sheet(256, 8_127), 33_532, 235_200);
