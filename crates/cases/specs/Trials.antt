@@ -7,7 +7,7 @@ use lib.ListN.{replicate}
 use Rattle.rules.specs.Events.{Event, tick, measurement, write}
 use Rattle.rules.specs.Settings.{delayTicks}
 use Rattle.rules.specs.Selection.{input}
-use Rattle.rules.specs.History.{withBlocks, value, freshHistory}
+use Rattle.rules.specs.History.{replaced, value, freshHistory}
 use Rattle.rules.specs.State.{State, selected}
 use Rattle.rules.specs.Registers.{fresh}
 use Rattle.rules.specs.Reading.{read}
@@ -108,7 +108,7 @@ table =
     ∷ register 0x48 after (automatic ++ measured 1 (pos 0) ++ clean 79 ++ locked 15) is 0x21
     ∷ register 0x48 after (automatic ++ measured 1 (pos 0) ++ clean 79 ++ locked 16) is 0x31
     -- H "kept block sums −1 and 42 times 0: value −1."
-    ∷ value (withBlocks (minus 1 ∷ replicate 42 (pos 0)) freshHistory) is minus 1
+    ∷ value (replaced (minus 1 ∷ replicate 42 (pos 0)) freshHistory) is minus 1
     -- I "delay 1: n = 469; delay 255: 119,532."
     ∷ delayTicks 1 is 469
     ∷ delayTicks 255 is 119_532

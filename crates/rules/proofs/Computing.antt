@@ -27,8 +27,9 @@ unfolding
     Selection.altered Selection.eachFrom Selection.available Selection.candidate Selection.bestUpTo Selection.best Selection.settled
     Selection.waitAfter Selection.switches Selection.reverted Selection.reselected Selection.manual Selection.chosen Selection.unselectedMode Selection.unselectedLoop
     Selection.modeAfter Selection.steered
-    History.ready History.held History.refilled History.withBlocks History.openEmptied History.saturated History.sampled History.withLast
-    History.noted History.recorded History.sumOf History.value History.backedUp History.withCommand History.commanded History.freshHistory
+    History.ready History.held History.withBlocks History.openEmptied History.saturated History.filling History.completed History.sampled
+    History.startsBuilding History.withLast History.noted History.recorded History.sumOf History.value History.backedUp History.replaced
+    History.withCommand History.commanded History.freshHistory
     Tick.watched Tick.loopAfter Tick.inputsAfter Tick.holdingAfter Tick.steps1to4 Tick.step5 Tick.ticked
     Registers.registers Registers.place Registers.inMap Registers.register Registers.readOnly Registers.largest Registers.stored Registers.written
     Registers.settingsFrom Registers.freshFrom Registers.freshTable Registers.fresh

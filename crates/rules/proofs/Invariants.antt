@@ -27,7 +27,7 @@ use Rattle.rules.proofs.Tables.{fresh-largest}
 use Rattle.rules.proofs.OneInput.{bucket-works, sound-measured, sound-unsoaked, sound-fresh}
 use Rattle.rules.proofs.SoundInputs.{sound-altered, sound-inputs}
 use Rattle.rules.proofs.SoundLoop.{sound-loop, sound-unselected}
-use Rattle.rules.proofs.SoundHistory.{no-blocks, sound-emptied, sum-kept, sound-recorded, sound-commanded, last-recorded, last-commanded}
+use Rattle.rules.proofs.SoundHistory.{no-blocks, none-building, sound-emptied, sum-kept, sound-recorded, sound-commanded, last-recorded, last-commanded}
 
 -- ---- settings
 
@@ -176,7 +176,7 @@ lawful-from table w =
       inputs = record { eight = refl; each = λ i r. rw (getD-replicate 8 (i - 1) freshInput freshInput (omega (arith, low 1 8 i r, high 1 8 i r))) (sound-fresh (bucketOf i) bucket-works) };
       settings = w;
       loop = sound-unselected freeRun (omega arith);
-      history = record { kept = no-blocks; open-lt = omega arith; open-within = omega arith; command-le = omega arith; backup = no-blocks; backup-full = inl refl };
+      history = record { kept = no-blocks; building = none-building false; open-lt = omega arith; open-within = omega arith; command-le = omega arith; backup = no-blocks; backup-full = inl refl };
       last = λ e. absurd (false≢true e);
       holding-le = omega arith;
       holding-none = λ e. refl;

@@ -13,6 +13,7 @@ pub mod Chosen
 pub mod SoundInputs
 pub mod SoundLoop
 pub mod SoundHistory
+pub mod Blocks
 pub mod Invariants
 pub mod Bytes
 pub mod Digits

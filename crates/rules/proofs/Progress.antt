@@ -7,7 +7,7 @@ use mathlib.Core.List.{List, [], _∷_}
 use native.Mathlib.Omega.{arith}
 use lib.Dec.{leb, ltb, eqb}
 use lib.IntN.{ℤ, natAbs, _+ℤ_}
-use lib.ListN.{length, take, length-take}
+use lib.ListN.{length}
 use borrow.Author.Tests.{eqb-true, eqb-false, leb-true, leb-false, ltb-true, ltb-false, eq-eqb, ne-eqb}
 use Rattle.rules.specs.Words.{if_then_else_, bitOf, isInput, isTracked, isCounted}
 use Rattle.rules.specs.Events.{Event, tick, measurement, hit, write, isTick}
@@ -15,7 +15,7 @@ use Rattle.rules.specs.Monitors.{bucketOf, Input, monitored, measured, u
 use Rattle.rules.specs.Pll.{locked, is, modeNumber, Loop, lockTicks, looped, alarmDue}
 use Rattle.rules.specs.Settings.{Settings, policy, automatic, reject, qualification, priority, usable, revertive, ahead, reversion, opMode}
 use Rattle.rules.specs.Selection.{Inputs, input, altered, Choice, available, candidate, settled, waitLimit, reselected, chosen, modeAfter, steered}
-use Rattle.rules.specs.History.{History, blockSamples, keptBlocks, readyBlocks, refilled, withBlocks, saturated, sampled, withLast, noted, recorded}
+use Rattle.rules.specs.History.{History, blockSamples, readyBlocks, refilled, saturated, filling, completed, sampled, withLast, noted, recorded}
 use Rattle.rules.specs.State.{State, selected, mode, Ready}
 use Rattle.rules.specs.Tick.{watched, loopAfter, inputsAfter, steps1to4, step5, ticked}
 use Rattle.rules.specs.Refusals.{refusal, accepted}
@@ -28,6 +28,7 @@ use Rattle.rules.proofs.EightInputs.{input-each, input-altered-other, i
 use Rattle.rules.proofs.OneInput.{bucket-works, Calm, calm-tick, calm-qualified, calm-measured}
 use Rattle.rules.proofs.Best.{ahead-is, candidate-usable, best-is}
 use Rattle.rules.proofs.Chosen.{Waits, reselected-cases, wait-one, wait-more}
+use Rattle.rules.proofs.Blocks.{joined, joined-length, completed-fills, completed-replaces, completed-ready}
 use Rattle.rules.proofs.Invariants.{lawful-next}
 use Rattle.rules.proofs.SoundLoop.{choiceAfter}
 
@@ -81,39 +82,34 @@ module _ (r : ℕ) (set : Settings) (ref : isInput r ≡ true) (p : Preferred r 
 
 -- ---- the history while r is selected
 
--- j ticks since the selection have brought all but the lock run's first 15 of them as samples, or Ready
+-- j ticks since the selection have brought all but the lock run's first 15 of them as samples to the history that fills, or Ready
 abbrev pub Filled : ℕ → History → Type 0
-Filled j h = (j ≤ lockTicks - 1 + (blockSamples * length (h .kept) + h .openCount)) ⊎ (readyBlocks ≤ length (h .kept))
+Filled j h = (j ≤ lockTicks - 1 + (blockSamples * length (filling h) + h .openCount)) ⊎ (readyBlocks ≤ length (h .kept))
+
+filled-completed : (j : ℕ) (sum : ℤ) (h : History) → h .openCount < blockSamples → Filled j h → Filled (suc j) (completed sum h)
+filled-completed j sum h few (inr l) = inr (completed-ready sum h l)
+filled-completed j sum h few (inl l) =
+    by-test (leb readyBlocks (length (joined sum h)))
+    (λ e. let full : readyBlocks ≤ length (joined sum h) = leb-true readyBlocks (length (joined sum h)) e in inr (rw (completed-replaces sum h full) full))
+    (λ e. inl (omega (arith, joined-length sum h, ap length (completed-fills sum h), leb-false readyBlocks (length (joined sum h)) e)))
 
 filled-sampled : (j : ℕ) (x : ℤ) (h : History) → h .openCount < blockSamples → Filled j h → Filled (suc j) (sampled x h)
-unfolding sampled withBlocks refilled
+unfolding sampled filling
 filled-sampled j x h few f =
-    if-case (Filled (suc j)) (leb blockSamples (h .openCount + 1)) (λ e. whole (leb-true blockSamples (h .openCount + 1) e) f) (λ e. part f)
+    if-case (Filled (suc j)) (leb blockSamples (h .openCount + 1)) (λ e. filled-completed j (saturated (h .openSum +ℤ x)) h few f) (λ e. part f)
   where
-    sum : ℤ
-    sum = saturated (h .openSum +ℤ x)
-
-    longer : length (take keptBlocks (sum ∷ h .kept)) ≡ min keptBlocks (suc (length (h .kept)))
-    longer = length-take keptBlocks (sum ∷ h .kept)
-
-    whole : blockSamples ≤ h .openCount + 1 → Filled j h → Filled (suc j) (withBlocks (take keptBlocks (sum ∷ h .kept)) h)
-    whole e (inr l) = inr (omega (arith, longer))
-    whole e (inl l) =
-        by-test (leb readyBlocks (length (h .kept) + 1)) (λ t. inr (omega (arith, longer, leb-true readyBlocks (length (h .kept) + 1) t)))
-        (λ t. inl (omega (arith, longer, leb-false readyBlocks (length (h .kept) + 1) t)))
-
-    part : Filled j h → Filled (suc j) (refilled (h .kept) sum (h .openCount + 1) h)
+    part : Filled j h → Filled (suc j) (refilled (h .kept) (h .builds) (h .building) (saturated (h .openSum +ℤ x)) (h .openCount + 1) h)
     part (inl l) = inl (omega arith)
     part (inr l) = inr l
 
--- the reference selected last is selected still: nothing is emptied
+-- the reference selected last is selected still: nothing starts to build
 noted-same : (pol r : ℕ) (h : History) → isCounted r ≡ true → h .last ≡ r → noted pol r h ≡ withLast r h
 unfolding noted
 noted-same pol r h ref e = rw (ref, e, eq-eqb r r refl, and-false (eqb pol 0)) refl
 
 filled-recorded : (j pol r : ℕ) (x : ℤ) (h : History) → isCounted r ≡ true → h .last ≡ r → h .openCount < blockSamples → Filled j h
     → Filled (suc j) (recorded pol r true x h)
-unfolding recorded withLast
+unfolding recorded withLast filling
 filled-recorded j pol r x h ref e few f = rw (noted-same pol r h ref e) (filled-sampled j x (withLast r h) few f)
 
 -- ---- the loop while r is selected

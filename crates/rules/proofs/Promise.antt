@@ -20,6 +20,7 @@ use Rattle.rules.specs.Laws.{Lawful}
 use Rattle.rules.specs.Service.{Provisos, qualifyTicks, fillTicks, selectedTicks, readyTicks, Numbers, acceptedTicks, Served, Promise, PromiseInFigures}
 use Rattle.rules.proofs.Tests.{is-between}
 use Rattle.rules.proofs.OneInput.{bucket-works, calm-start}
+use Rattle.rules.proofs.Blocks.{filled-ready}
 use Rattle.rules.proofs.Invariants.{invariants}
 use Rattle.rules.proofs.Counts.{least-delay}
 use Rattle.rules.proofs.Progress.{leading, Filled, Serving, early, waits, serves, phaseOf, Going, going-run}
@@ -54,7 +55,7 @@ module _ (n r k : ℕ) (s : State) (g : Going n r k s) where
   ready-at h = le-leb readyBlocks (length (s .history .kept)) (go (g .phase))
     where
       full : Filled (k - (qualifyTicks (bucketOf r) + n)) (s .history) → readyBlocks ≤ length (s .history .kept)
-      full (inl l) = omega (arith, g .lawful .history .open-lt)
+      full (inl l) = filled-ready (s .history) (g .lawful .history .building) (omega (arith, g .lawful .history .open-lt))
       full (inr l) = l
 
       far : Serving (k - (qualifyTicks (bucketOf r) + n)) (s .loop) (s .history) → readyBlocks ≤ length (s .history .kept)

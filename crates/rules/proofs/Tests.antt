@@ -2,7 +2,7 @@
 use Prim.Native.Nat.{ℕ, suc, _+_, _≤_}
 use mathlib.Core.Path.{_≡_, refl, sym, _∙_}
 use mathlib.Core.Logic.{_⊎_, inl, inr}
-use mathlib.Core.Bool.{Bool, true, false, _&&_, _||_, true≢false, false≢true}
+use mathlib.Core.Bool.{Bool, true, false, not, _&&_, _||_, true≢false, false≢true}
 use native.Mathlib.Omega.{arith}
 use lib.Dec.{leb, eqb, eqb·suc-zero}
 use borrow.Author.Tests.{leb-true, le-leb}
@@ -29,6 +29,10 @@ by-test false f g = g refl
 -- a test does not both pass and fail
 pub clash : {P : Type 0} {b : Bool} → b ≡ true → b ≡ false → P
 clash t f = absurd (true≢false (sym t ∙ f))
+
+pub not-true : (a : Bool) → not a ≡ true → a ≡ false
+not-true true e = sym e
+not-true false e = refl
 
 pub or-true : (a : Bool) → (a || true) ≡ true
 or-true true = refl

@@ -11,7 +11,7 @@ use Rattle.rules.specs.Monitors.{Input, measured, fullSoak}
 use Rattle.rules.specs.Pll.{holdover, preLocked}
 use Rattle.rules.specs.Settings.{Settings}
 use Rattle.rules.specs.Selection.{Inputs, Choice, settled, chosen, waitAfter, switches}
-use Rattle.rules.specs.History.{ready, withBlocks, value, freshHistory}
+use Rattle.rules.specs.History.{ready, replaced, value, freshHistory}
 use Rattle.rules.specs.State.{State, selected}
 use Rattle.rules.specs.Tick.{holdingAfter}
 use Rattle.rules.specs.Registers.{written, fresh}
@@ -65,7 +65,7 @@ table =
     -- "negating −128 in a byte"
     measured 31 25 (negsuc 127) (clock true) .frequency is true
     -- "rounding the mean toward zero"
-    ∷ value (withBlocks (negsuc 0 ∷ pos 0 ∷ []) freshHistory) is negsuc 0
+    ∷ value (replaced (negsuc 0 ∷ pos 0 ∷ []) freshHistory) is negsuc 0
     -- "reading bit 3 of the candidate, not of the selected": 1 is best, and revertive; 2 is selected, and not. Then the other way round.
     ∷ chosen (setting 0 0b1000 0b0001) (clocks true true false) (settled 2) .selected is 2
     ∷ chosen (setting 0 0b0000 0b1001) (clocks true true false) (settled 2) .selected is 1
@@ -97,8 +97,8 @@ table =
     ∷ refusal fresh (write 0x40 2) is 3
     ∷ next fresh (write 0x40 2) .settings 0x40 is 0
     -- "one that says "not Ready" forever", or ""Ready" from the start"
-    ∷ ready (withBlocks (replicate 43 (pos 0)) freshHistory) is true
-    ∷ ready (withBlocks (replicate 42 (pos 0)) freshHistory) is false
+    ∷ ready (replaced (replicate 43 (pos 0)) freshHistory) is true
+    ∷ ready (replaced (replicate 42 (pos 0)) freshHistory) is false
     -- "one with an invented 0x4e": 2 is masked
     ∷ read (unit (written 0x42 0b11111101 (fresh .settings)) (clocks true true true)) 0x4e .byte is 2
     -- "or hour count": the entering tick does not count, and an hour has 28,125

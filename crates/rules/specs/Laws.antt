@@ -3,7 +3,7 @@
 use Prim.Native.Nat.{ℕ, _+_, _-_, _*_, _/_, _%_, _≤_, _<_, min}
 use mathlib.Core.Path.{_≡_}
 use mathlib.Core.Logic.{_⊎_}
-use mathlib.Core.Bool.{true, false, _&&_}
+use mathlib.Core.Bool.{Bool, true, false, _&&_}
 use mathlib.Core.List.{List, [], _∷_}
 use lib.IntN.{ℤ, pos, natAbs, _+ℤ_, _*ℤ_}
 use lib.Signed.{_≤ℤ_}
@@ -64,9 +64,16 @@ pub record SoundBlocks (l : List ℤ) : Type 0 where
   pub count-le : length l ≤ keptBlocks
   pub within : Within l
 
+-- the building history: fewer than 43 blocks, and none while nothing builds
+pub record SoundBuilding (builds : Bool) (l : List ℤ) : Type 0 where
+  pub few : length l < readyBlocks
+  pub within : Within l
+  pub idle : builds ≡ false → l ≡ []
+
 -- at most 127 open samples, their sum no more than so many can have; a command of the map; the backup is none or 43 blocks or more
 pub record SoundHistory (h : History) : Type 0 where
   pub kept : SoundBlocks (h .kept)
+  pub building : SoundBuilding (h .builds) (h .building)
   pub open-lt : h .openCount < blockSamples
   pub open-within : natAbs (h .openSum) ≤ sampleLimit * h .openCount
   pub command-le : h .command ≤ 3

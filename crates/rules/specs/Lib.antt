@@ -21,5 +21,7 @@ pub mod Avoided
 pub mod Laws
 pub mod Preference
 pub mod Service
+pub mod OldHistory
+pub mod Comparison
 pub mod Records
 pub mod PageLaws

@@ -1,0 +1,52 @@
+-- A completed block: the history that fills has one more, 43 of them are in use, and Ready stands on.
+use Prim.Native.Nat.{suc, _≤_, min}
+use mathlib.Core.Path.{_≡_, refl, ap}
+use mathlib.Core.Bool.{Bool, true, false, not, _&&_, true≢false}
+use mathlib.Core.List.{List, [], _∷_}
+use native.Mathlib.Omega.{arith}
+use lib.Dec.{leb}
+use lib.IntN.{ℤ}
+use lib.ListN.{length, take, length-take}
+use borrow.Author.Tests.{leb-true, le-leb}
+use Rattle.rules.specs.Words.{if_then_else_}
+use Rattle.rules.specs.History.{History, keptBlocks, readyBlocks, withBlocks, filling, completed}
+use Rattle.rules.specs.Laws.{SoundBuilding}
+use Rattle.rules.proofs.Tests.{if-case, and-false}
+
+module _ (sum : ℤ) (h : History) where
+  -- the blocks of the history that fills, with the new one
+  abbrev pub joined : List ℤ
+  joined = take keptBlocks (sum ∷ filling h)
+
+  pub joined-length : length joined ≡ min keptBlocks (suc (length (filling h)))
+  joined-length = length-take keptBlocks (sum ∷ filling h)
+
+  pub completed-fills : filling (completed sum h) ≡ joined
+  unfolding completed filling withBlocks
+  completed-fills =
+      if-case (λ (g : History). (if g .builds then g .building else g .kept) ≡ joined) (h .builds && not (leb readyBlocks (length joined))) (λ e. refl) (λ e. refl)
+
+  -- 43 of them are in use
+  pub completed-replaces : readyBlocks ≤ length joined → completed sum h .kept ≡ joined
+  unfolding completed withBlocks
+  completed-replaces l = rw (le-leb readyBlocks (length joined) l, and-false (h .builds)) refl
+
+  pub completed-ready : readyBlocks ≤ length (h .kept) → readyBlocks ≤ length (completed sum h .kept)
+  unfolding completed withBlocks filling
+  completed-ready l =
+      if-case (λ (g : History). readyBlocks ≤ length (g .kept)) (h .builds && not (leb readyBlocks (length joined))) (λ e. l)
+      (λ e. new (h .builds) refl (leb readyBlocks (length joined)) refl e)
+    where
+      new : (b : Bool) → h .builds ≡ b → (c : Bool) → leb readyBlocks (length joined) ≡ c → (b && not c) ≡ false → readyBlocks ≤ length joined
+      new true e true t u = leb-true readyBlocks (length joined) t
+      new true e false t u = absurd (true≢false u)
+      new false e c t u = omega (arith, joined-length, ap (λ (b : Bool). length (if b then h .building else h .kept)) e)
+
+-- where the history that fills has 43 blocks, those in use are 43
+pub filled-ready : (h : History) → SoundBuilding (h .builds) (h .building) → readyBlocks ≤ length (filling h) → readyBlocks ≤ length (h .kept)
+unfolding filling
+filled-ready h w l = go (h .builds) l
+  where
+    go : (b : Bool) → readyBlocks ≤ length (if b then h .building else h .kept) → readyBlocks ≤ length (h .kept)
+    go true m = omega (arith, w .few)
+    go false m = m

@@ -1,0 +1,21 @@
+-- Request #102 of document 02: what the building history brings, against the rules before it. Two claims about every list of events from a fresh unit, refused
+-- events included; a command may be accepted under the one rules and refused under the other.
+use mathlib.Core.Path.{_≡_}
+use mathlib.Core.Bool.{true, false}
+use mathlib.Core.List.{List, [], _∷_, _++_}
+use Rattle.rules.specs.Events.{Event, write}
+use Rattle.rules.specs.State.{Ready}
+use Rattle.rules.specs.Registers.{fresh}
+use Rattle.rules.specs.Refusals.{accepted}
+use Rattle.rules.specs.Run.{run}
+use Rattle.rules.specs.OldHistory.{oldRun}
+
+-- "Over the same list from fresh, Ready stands after each event after which it stood under the old rules"
+abbrev pub NeverLessReady : Type 0
+NeverLessReady = (es : List Event) → Ready (oldRun fresh es) ≡ true → Ready (run fresh es) ≡ true
+
+-- "and once standing it ends only by command 3": an event after which it no longer stands is a write of 3 to 0x26, accepted
+abbrev pub EndsByCommand3 : Type 0
+EndsByCommand3 =
+    (es : List Event) (e : Event) → Ready (run fresh es) ≡ true → Ready (run fresh (es ++ e ∷ [])) ≡ false
+    → (e ≡ write 0x26 3) × (accepted (run fresh es) e ≡ true)
