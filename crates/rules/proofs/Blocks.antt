@@ -1,15 +1,15 @@
 -- A completed block: the history that fills has one more, 43 of them are in use, and Ready stands on.
-use Prim.Native.Nat.{suc, _≤_, min}
+use Prim.Native.Nat.{suc, _+_, _≤_, min}
 use mathlib.Core.Path.{_≡_, refl, ap}
 use mathlib.Core.Bool.{Bool, true, false, not, _&&_, true≢false}
 use mathlib.Core.List.{List, [], _∷_}
 use native.Mathlib.Omega.{arith}
 use lib.Dec.{leb}
-use lib.IntN.{ℤ}
+use lib.IntN.{ℤ, _+ℤ_}
 use lib.ListN.{length, take, length-take}
 use borrow.Author.Tests.{leb-true, le-leb}
 use Rattle.rules.specs.Words.{if_then_else_}
-use Rattle.rules.specs.History.{History, keptBlocks, readyBlocks, withBlocks, filling, completed}
+use Rattle.rules.specs.History.{History, blockSamples, keptBlocks, readyBlocks, withBlocks, saturated, filling, completed, sampled}
 use Rattle.rules.specs.Laws.{SoundBuilding}
 use Rattle.rules.proofs.Tests.{if-case, and-false}
 
@@ -41,6 +41,13 @@ module _ (sum : ℤ) (h : History) where
       new true e true t u = leb-true readyBlocks (length joined) t
       new true e false t u = absurd (true≢false u)
       new false e c t u = omega (arith, joined-length, ap (λ (b : Bool). length (if b then h .building else h .kept)) e)
+
+-- a sample
+pub sampled-ready : (x : ℤ) (h : History) → readyBlocks ≤ length (h .kept) → readyBlocks ≤ length (sampled x h .kept)
+unfolding sampled
+sampled-ready x h l =
+    if-case (λ (g : History). readyBlocks ≤ length (g .kept)) (leb blockSamples (h .openCount + 1))
+    (λ e. completed-ready (saturated (h .openSum +ℤ x)) h l) (λ e. l)
 
 -- where the history that fills has 43 blocks, those in use are 43
 pub filled-ready : (h : History) → SoundBuilding (h .builds) (h .building) → readyBlocks ≤ length (filling h) → readyBlocks ≤ length (h .kept)

@@ -8,7 +8,7 @@ use native.Mathlib.Omega.{arith}
 use lib.Dec.{leb, eqb}
 use lib.IntN.{ℤ, natAbs}
 use lib.ListN.{getD-replicate}
-use borrow.Author.Tests.{eqb-true, eqb-false, leb-true, ltb-false, eq-eqb, ne-eqb, not-false}
+use borrow.Author.Tests.{eqb-true, eqb-false, leb-true, ltb-false, le-ltb, eq-eqb, ne-eqb, not-false}
 use Rattle.rules.specs.Words.{isInput, isTracked}
 use Rattle.rules.specs.Events.{Event, tick, measurement, hit, write, sampleLimit}
 use Rattle.rules.specs.Monitors.{bucketOf, unsoaked, freshInput}
@@ -33,6 +33,8 @@ use Rattle.rules.proofs.SoundHistory.{no-blocks, none-building, sound-e
 
 -- what an accepted write has passed
 pub record WriteAllowed (s : State) (a v : ℕ) : Type 0 where
+  pub known : not (inMap a) ≡ false
+  pub writable : readOnly a ≡ false
   pub small : v ≤ largest a
   pub limits : limitsRefused (s .settings) a v ≡ false
   pub command : (eqb a 0x26 && commandRefused (Ready s) (held (s .history .backup)) v) ≡ false
@@ -44,7 +46,18 @@ write-allowed s a v e =
     let second = unrefused (readOnly a) 1 _ (first .1) in
     let third = unrefused _ 2 _ (second .1) in
     let fourth = unrefused _ 3 _ (third .1) in
-    record { small = ltb-false (largest a) v (third .0); limits = fourth .0; command = unrefused _ 7 0 (fourth .1) .0 }
+    record {
+      known = first .0;
+      writable = second .0;
+      small = ltb-false (largest a) v (third .0);
+      limits = fourth .0;
+      command = unrefused _ 7 0 (fourth .1) .0;
+    }
+
+-- and what has passed all that is accepted
+pub write-accepted : (s : State) (a v : ℕ) → WriteAllowed s a v → accepted s (write a v) ≡ true
+unfolding refusal writeRefusal
+write-accepted s a v ok = rw (ok .known, ok .writable, le-ltb (largest a) v (ok .small), ok .limits, ok .command) refl
 
 stored-le : (a v : ℕ) → stored a v ≤ v
 unfolding stored

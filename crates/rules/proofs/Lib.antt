@@ -28,5 +28,6 @@ pub mod Refusals
 pub mod Laws
 pub mod Progress
 pub mod Promise
+pub mod Comparison
 pub mod Records
 pub mod PageLaws
