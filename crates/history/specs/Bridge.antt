@@ -1,12 +1,13 @@
 -- From the code's tally and sums to the rules' history.
 use Prim.Native.Nat.{ℕ}
 use mathlib.Core.Path.{_≡_}
-use mathlib.Core.Bool.{false}
+use mathlib.Core.Bool.{false, not}
 use mathlib.Core.List.{List, _∷_, map}
+use lib.Dec.{eqb}
 use lib.IntN.{ℤ, pos}
 use lib.ListN.{take}
 use Rattle.rules.specs.Words.{if_then_else_}
-use Rattle.rules.specs.History.{History, saturated}
+use Rattle.rules.specs.History.{History, saturated, completed}
 use Rattle.history.specs.declared.Tally.{Tally}
 use Rattle.history.specs.declared.Update.{Update}
 use Rattle.history.specs.declared.History as code
@@ -15,11 +16,13 @@ use Rattle.history.specs.declared.History as code
 unfoldable pub keptOf : List ℤ → ℕ → List ℤ
 keptOf sums count = map saturated (take count sums)
 
--- THE BRIDGE: the history that a tally is, with the kept sums and the backup's
-abbrev pub historyOf : Tally → List ℤ → List ℤ → History
-historyOf t sums backup =
+-- THE BRIDGE: the history that a tally is, with the sums in use, those of the building history and the backup's
+abbrev pub historyOf : Tally → List ℤ → List ℤ → List ℤ → History
+historyOf t sums building backup =
     record {
       kept = keptOf sums (t .count);
+      builds = not (eqb (t .builds) 0);
+      building = keptOf building (t .built);
       openSum = saturated (t .open);
       openCount = t .filled;
       last = t .last;
@@ -29,21 +32,21 @@ historyOf t sums backup =
 
 -- the history that the whole struct is
 abbrev pub wholeOf : code.History → History
-wholeOf h = historyOf (h .tally) (h .sums) (h .backup)
+wholeOf h = historyOf (h .tally) (h .sums) (h .building) (h .backup)
 
 -- the 64 sums with a new one first
 abbrev pub pushed : ℤ → List ℤ → List ℤ
 pushed x sums = x ∷ take 63 sums
 
--- the kept sums after an update: a completed block's sum is pushed
-abbrev pub sumsAfter : Update → List ℤ → List ℤ
-sumsAfter u sums = if u .done then pushed (u .sum) sums else sums
-
 -- From tally t to tally r is the rule's step, whatever the sums are; they stay.
 abbrev pub Steps : Tally → Tally → (History → History) → Type 0
-Steps t r rule = (sums backup : List ℤ) → historyOf r sums backup ≡ rule (historyOf t sums backup)
+Steps t r rule = (sums building backup : List ℤ) → historyOf r sums building backup ≡ rule (historyOf t sums building backup)
 
--- From tally t to update u is the rule's step, whatever the sums are; where no block is done, the sum to push is 0.
+-- the history after an update: a block that is done joins the history that fills
+abbrev pub afterUpdate : Update → History → History
+afterUpdate u h = if u .done then completed (saturated (u .sum)) h else h
+
+-- From tally t to update u is the rule's step, whatever the sums are; where no block is done, there is no sum.
 pub record Updates (t : Tally) (u : Update) (rule : History → History) : Type 0 where
-  pub step : (sums backup : List ℤ) → historyOf (u .tally) (sumsAfter u sums) backup ≡ rule (historyOf t sums backup)
+  pub step : (sums building backup : List ℤ) → afterUpdate u (historyOf (u .tally) sums building backup) ≡ rule (historyOf t sums building backup)
   pub none : u .done ≡ false → u .sum ≡ pos 0

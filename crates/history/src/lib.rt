@@ -1,13 +1,14 @@
-// The holdover history: document 01, "History (step 5)". A tick changes the small tally; the kept sums are touched only when a block completes.
+// The holdover history: document 01, "History (step 5)", with the building history of request #102. A tick changes the small tally; the sums in use and those
+// that build are touched only when a block completes.
 // Each contract is an equation with a rule of crates/rules/specs/History.antt through specs/Bridge.antt; the rule is named above the function.
 ghost use mathlib.Core.Path.{_≡_};
-ghost use mathlib.Core.List.{List, []};
+ghost use mathlib.Core.List.{List};
+ghost use Prim.Native.Nat.{_+_, min};
 ghost use lib.IntN.{ℤ, _+ℤ_};
 ghost use lib.ListN.{length};
 ghost use Rattle.rules.specs.History as rules;
-ghost use Rattle.rules.specs.History.{ready, held, saturated, withBlocks, openEmptied, sampled, noted, recorded, freshHistory};
-ghost use Rattle.history.specs.Bridge.{historyOf, wholeOf, pushed, Steps, Updates};
-use arith::least;
+ghost use Rattle.rules.specs.History.{ready, held, saturated, openEmptied, sampled, startsBuilding, noted, recorded, replaced, freshHistory};
+ghost use Rattle.history.specs.Bridge.{keptOf, historyOf, wholeOf, pushed, Steps, Updates};
 use arith::one_to_eight;
 
 // What a tick changes of the history.
@@ -16,23 +17,27 @@ pub struct Tally {
     // The open block: its sum, and how many samples it has.
     pub open: i64,
     pub filled: u16,
-    // How many blocks are kept, and how many the backup has.
-    pub count: u16,
-    pub backed: u16,
+    // How many blocks are in use, how many the building history has, and how many the backup.
+    pub count: u8,
+    pub built: u8,
+    pub backed: u8,
+    // Not 0 while a history builds.
+    pub builds: u8,
     // The reference selected last, 0 for none; the last accepted command.
     pub last: u8,
     pub command: u8,
 }
 
-// The whole history: the tally, the kept block sums, newest first, and the backup's.
+// The whole history: the tally, the block sums in use, newest first, those of the building history, and the backup's.
 #[repr(C)]
 pub struct History {
     pub tally: Tally,
     pub sums: [i64; 64],
+    pub building: [i64; 64],
     pub backup: [i64; 64],
 }
 
-// What step 5 gives of the tally: the tally, whether a block is done, and if so its sum, which is to be pushed.
+// What step 5 gives of the tally: the tally, whether a block is done, and if so its sum, which is to join the history that fills.
 struct Update {
     tally: Tally,
     done: bool,
@@ -61,16 +66,16 @@ pub fn within(z: i64) -> i64
     z
 }
 
-// `ready`: 43 blocks or more are kept.
+// `ready`: 43 blocks or more are in use.
 pub fn is_ready(t: Tally) -> bool
-    ensures { λ r. ⌜ ((sums backup : List ℤ) → length sums ≡ 64 → r ≡ ready (historyOf t sums backup)) ⌝ }
+    ensures { λ r. ⌜ ((sums building backup : List ℤ) → length sums ≡ 64 → r ≡ ready (historyOf t sums building backup)) ⌝ }
 {
     43 <= t.count
 }
 
 // `held`: the backup is not empty.
 pub fn holds_backup(t: Tally) -> bool
-    ensures { λ r. ⌜ ((sums backup : List ℤ) → length backup ≡ 64 → r ≡ held (historyOf t sums backup .backup)) ⌝ }
+    ensures { λ r. ⌜ ((sums building backup : List ℤ) → length backup ≡ 64 → r ≡ held (historyOf t sums building backup .backup)) ⌝ }
 {
     t.backed != 0
 }
@@ -88,13 +93,13 @@ fn summed(sum: i64, x: i32) -> i64
     within(within(sum) + (x as i64))
 }
 
-// `sampled`: the sample joins the open block, and completes it as its 128th; at most 64 blocks are kept.
+// `sampled`: the sample joins the open block, and completes it as its 128th.
 fn sampled(x: i32, t: Tally) -> Update
     ensures { λ r. ⌜ Updates t r (sampled x) ⌝ }
 {
     let sum = summed(t.open, x);
-    let mut next = t;
     if t.filled < 127 {
+        let mut next = t;
         next.open = sum;
         next.filled = t.filled + 1;
         return Update {
@@ -103,11 +108,8 @@ fn sampled(x: i32, t: Tally) -> Update
             sum: 0,
         };
     }
-    next.open = 0;
-    next.filled = 0;
-    next.count = least(t.count, 63) + 1;
     Update {
-        tally: next,
+        tally: t,
         done: true,
         sum,
     }
@@ -123,18 +125,17 @@ pub fn open_emptied(t: Tally) -> Tally
     rest
 }
 
-// `withBlocks []`: blocks and open block empty.
-fn emptied(t: Tally) -> Tally
-    ensures { λ r. ⌜ Steps t r (withBlocks []) ⌝ }
+// `startsBuilding`: a building history with no block yet, and an empty open block.
+fn starts_building(t: Tally) -> Tally
+    ensures { λ r. ⌜ Steps t r startsBuilding ⌝ }
 {
-    let mut next = t;
-    next.open = 0;
-    next.filled = 0;
-    next.count = 0;
+    let mut next = open_emptied(t);
+    next.builds = 1;
+    next.built = 0;
     next
 }
 
-// `noted`: a reference is noted as the one selected last; with policy 0, another than the last one empties blocks and open block first.
+// `noted`: a reference is noted as the one selected last; with policy 0, another than the last one starts a building history.
 fn noted(policy: u8, selected: u8, t: Tally) -> Tally
     ensures { λ r. ⌜ Steps t r (noted policy selected) ⌝ }
 {
@@ -146,7 +147,7 @@ fn noted(policy: u8, selected: u8, t: Tally) -> Tally
         let mut next = t;
         next.last = selected;
         if policy == 0 {
-            return emptied(next);
+            return starts_building(next);
         }
         return next;
     }
@@ -191,6 +192,38 @@ fn push(sums: &mut [i64; 64], x: i64)
     *sums = new;
 }
 
+// One block more, of which the latest 64 are kept.
+fn one_more(n: u8) -> u8
+    ensures { λ r. ⌜ r ≡ min 64 (n + 1) ⌝ }
+{
+    if n < 64 { n + 1 } else { 64 }
+}
+
+// `completed`: the block joins the history that fills; a building history that then has 43 replaces the blocks in use.
+fn completed(sum: i64, t: Tally, sums: &mut [i64; 64], building: &mut [i64; 64]) -> Tally
+    ensures { λ r. ⌜ ((backup : List ℤ) → historyOf r (now (sums .exit)) (now (building .exit)) backup ≡ rules.completed (saturated sum) (historyOf t (now (sums .entry)) (now (building .entry)) backup)) ⌝ }
+{
+    places(*building);
+    let mut next = open_emptied(t);
+    if t.builds == 0 {
+        push(sums, sum);
+        next.count = one_more(t.count);
+        next.built = 0;
+        return next;
+    }
+    push(building, sum);
+    if t.built < 42 {
+        next.built = t.built + 1;
+        return next;
+    }
+    let whole = *building;
+    *sums = whole;
+    next.count = one_more(t.built);
+    next.builds = 0;
+    next.built = 0;
+    next
+}
+
 // `recorded`, step 5: the sums are touched only when a block completes.
 pub fn recorded(
     policy: u8,
@@ -199,22 +232,33 @@ pub fn recorded(
     x: i32,
     t: Tally,
     sums: &mut [i64; 64],
+    building: &mut [i64; 64],
 ) -> Tally
-    ensures { λ r. ⌜ ((backup : List ℤ) → historyOf r (now (sums .exit)) backup ≡ rules.recorded policy selected locked x (historyOf t (now (sums .entry)) backup)) ⌝ }
+    ensures { λ r. ⌜ ((backup : List ℤ) → historyOf r (now (sums .exit)) (now (building .exit)) backup ≡ rules.recorded policy selected locked x (historyOf t (now (sums .entry)) (now (building .entry)) backup)) ⌝ }
 {
     let u = updated(policy, selected, locked, x, t);
     if u.done {
-        push(sums, u.sum);
-        return u.tally;
+        return completed(u.sum, u.tally, sums, building);
     }
     u.tally
 }
 
 // ---- the commands
 
-// `commanded`: 1 copies the kept blocks to backup, 2 replaces them by the backup and empties the open block, 3 empties both; any other is only noted.
+// `replaced`: `count` blocks are in use, and the building history and the open block empty.
+fn replaced(count: u8, t: Tally) -> Tally
+    ensures { λ r. ⌜ ((old sums building backup : List ℤ) → historyOf r sums building backup ≡ replaced (keptOf sums count) (historyOf t old building backup)) ⌝ }
+{
+    let mut next = open_emptied(t);
+    next.count = count;
+    next.built = 0;
+    next
+}
+
+// `commanded`: 1 copies the blocks in use to backup, 2 replaces them by the backup, 3 empties them; 2 and 3 empty the building history and the open block too;
+// any other is only noted. No command touches the sums of the building history.
 pub fn commanded(c: u8, t: Tally, sums: &mut [i64; 64], backup: &mut [i64; 64]) -> Tally
-    ensures { λ r. ⌜ historyOf r (now (sums .exit)) (now (backup .exit)) ≡ rules.commanded c (historyOf t (now (sums .entry)) (now (backup .entry))) ⌝ }
+    ensures { λ r. ⌜ ((building : List ℤ) → historyOf r (now (sums .exit)) building (now (backup .exit)) ≡ rules.commanded c (historyOf t (now (sums .entry)) building (now (backup .entry)))) ⌝ }
 {
     let mut next = t;
     next.command = c;
@@ -227,16 +271,15 @@ pub fn commanded(c: u8, t: Tally, sums: &mut [i64; 64], backup: &mut [i64; 64]) 
     if c == 2 {
         let kept = *backup;
         *sums = kept;
-        next.count = t.backed;
-        return open_emptied(next);
+        return replaced(t.backed, next);
     }
     if c == 3 {
-        return emptied(next);
+        return replaced(0, next);
     }
     next
 }
 
-// `freshHistory`: no block, no sample, no backup; the last reference and the last command are 0.
+// `freshHistory`: no block, no sample, no backup, and nothing builds; the last reference and the last command are 0.
 pub fn fresh_history() -> History
     ensures { λ r. ⌜ wholeOf r ≡ freshHistory ⌝ }
 {
@@ -245,11 +288,14 @@ pub fn fresh_history() -> History
             open: 0,
             filled: 0,
             count: 0,
+            built: 0,
             backed: 0,
+            builds: 0,
             last: 0,
             command: 0,
         },
         sums: [0; 64],
+        building: [0; 64],
         backup: [0; 64],
     }
 }

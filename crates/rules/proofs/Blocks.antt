@@ -1,5 +1,5 @@
 -- A completed block: the history that fills has one more, 43 of them are in use, and Ready stands on.
-use Prim.Native.Nat.{suc, _+_, _≤_, min}
+use Prim.Native.Nat.{suc, _+_, _≤_, _<_, min}
 use mathlib.Core.Path.{_≡_, refl, ap}
 use mathlib.Core.Bool.{Bool, true, false, not, _&&_, true≢false}
 use mathlib.Core.List.{List, [], _∷_}
@@ -7,7 +7,7 @@ use native.Mathlib.Omega.{arith}
 use lib.Dec.{leb}
 use lib.IntN.{ℤ, _+ℤ_}
 use lib.ListN.{length, take, length-take}
-use borrow.Author.Tests.{leb-true, le-leb}
+use borrow.Author.Tests.{leb-true, le-leb, lt-leb}
 use Rattle.rules.specs.Words.{if_then_else_}
 use Rattle.rules.specs.History.{History, blockSamples, keptBlocks, readyBlocks, withBlocks, saturated, filling, completed, sampled}
 use Rattle.rules.specs.Laws.{SoundBuilding}
@@ -41,6 +41,21 @@ module _ (sum : ℤ) (h : History) where
       new true e true t u = leb-true readyBlocks (length joined) t
       new true e false t u = absurd (true≢false u)
       new false e c t u = omega (arith, joined-length, ap (λ (b : Bool). length (if b then h .building else h .kept)) e)
+
+-- a completed block, where nothing builds; where a history builds; and where it then has 43
+pub completed-idle : (sum : ℤ) (h : History) → h .builds ≡ false → completed sum h ≡ withBlocks (take keptBlocks (sum ∷ h .kept)) false [] h
+unfolding completed filling
+completed-idle sum h e = rw e refl
+
+pub completed-more : (sum : ℤ) (h : History) → h .builds ≡ true → length (take keptBlocks (sum ∷ h .building)) < readyBlocks
+    → completed sum h ≡ withBlocks (h .kept) true (take keptBlocks (sum ∷ h .building)) h
+unfolding completed filling
+completed-more sum h e l = rw (e, lt-leb readyBlocks (length (take keptBlocks (sum ∷ h .building))) l) refl
+
+pub completed-full : (sum : ℤ) (h : History) → h .builds ≡ true → readyBlocks ≤ length (take keptBlocks (sum ∷ h .building))
+    → completed sum h ≡ withBlocks (take keptBlocks (sum ∷ h .building)) false [] h
+unfolding completed filling
+completed-full sum h e l = rw (e, le-leb readyBlocks (length (take keptBlocks (sum ∷ h .building))) l) refl
 
 -- a sample
 pub sampled-ready : (x : ℤ) (h : History) → readyBlocks ≤ length (h .kept) → readyBlocks ≤ length (sampled x h .kept)

@@ -9,8 +9,8 @@ use native.Mathlib.Omega.{arith}
 use lib.Dec.{leb, eqb}
 use lib.IntN.{ℤ, _+ℤ_}
 use lib.ListN.{length, take, length-take}
-use borrow.Author.Tests.{eqb-true, leb-true, le-leb, eq-eqb}
-use Rattle.rules.specs.Words.{if_then_else_, isInput, isTracked, isCounted}
+use borrow.Author.Tests.{eqb-true, leb-true, le-leb}
+use Rattle.rules.specs.Words.{if_then_else_, isTracked, isCounted}
 use Rattle.rules.specs.Events.{Event, tick, measurement, hit, write}
 use Rattle.rules.specs.Pll.{Mode, freeRun, holdover, preLocked, locked, preLocked2, modeNumber, is, Loop, lockTicks, unlockTicks, unlocked, looped, alarmDue}
 use Rattle.rules.specs.Settings.{Settings, policy, automatic, opMode}
@@ -18,13 +18,13 @@ use Rattle.rules.specs.Selection.{Choice, chosen, unselectedMode, unsele
 use Rattle.rules.specs.History.{History, blockSamples, keptBlocks, readyBlocks, ready, held, refilled, withBlocks, openEmptied, saturated, filling, completed, sampled, startsBuilding, withLast, noted, recorded, backedUp, replaced, withCommand, commanded, freshHistory}
 use Rattle.rules.specs.State.{State, selected, mode, Ready}
 use Rattle.rules.specs.Tick.{loopAfter, inputsAfter, steps1to4, step5, ticked}
-use Rattle.rules.specs.Registers.{inMap, readOnly, freshFrom, fresh}
+use Rattle.rules.specs.Registers.{freshFrom, fresh}
 use Rattle.rules.specs.Refusals.{limitsRefused, commandRefused, refusal, accepted}
 use Rattle.rules.specs.Run.{afterMeasurement, afterHit, afterWrite, effect, next, run}
 use Rattle.rules.specs.Laws.{SoundHistory, Lawful}
 use Rattle.rules.specs.OldHistory.{oldBlocks, oldSampled, oldNoted, oldRecorded, oldCommanded, oldHistory, withHistory, oldNext, oldRun}
 use Rattle.rules.specs.Comparison.{NeverLessReady, EndsByCommand3}
-use Rattle.rules.proofs.Tests.{if-case, by-test, clash, and-left, and-right, or-cases, or-false, unrefused}
+use Rattle.rules.proofs.Tests.{if-case, by-test, clash, and-left, and-right, or-cases, or-false}
 use Rattle.rules.proofs.Blocks.{joined-length, completed-fills, sampled-ready, filled-ready}
 use Rattle.rules.proofs.Invariants.{WriteAllowed, write-allowed, write-accepted, lawful-next, lawful-fresh, invariants}
 use Rattle.rules.proofs.Promise.{run-append}

@@ -1,4 +1,4 @@
--- By definition: both counts are 0.
+-- By definition: each count is 0.
 use mathlib.Core.Path.{refl}
 use Rattle.rules.specs.History.{saturated, freshHistory}
 use Rattle.history.specs.Bridge.{keptOf}

@@ -3,7 +3,7 @@ use mathlib.Core.Path.{_≡_, refl, sym, ap, _∙_}
 use mathlib.Core.Bool.{Bool, true, false, _&&_}
 use borrow.Author.Tests.{eq-eqb, ne-eqb}
 use borrow.Author.Needs.{needs}
-use Rattle.rules.specs.History.{refilled, withBlocks, withLast, noted}
+use Rattle.rules.specs.History.{withBlocks, startsBuilding, withLast, noted}
 use Rattle.history.specs.Bridge.{historyOf}
 use Rattle.history.proofs.noted.Statement.{statement}
 use Rattle.history.proofs.noted.Tie as tie
@@ -15,15 +15,15 @@ neither false = refl
 -- the reference selected last again: it stays noted, whatever the policy
 returns : tie.Need-returns
 unfolding noted withLast
-returns c sums backup =
+returns c sums building backup =
     let b = c .before .before in
     let a = b .before .before .args in
     rw (← b .before .one-to-eight .ensures, b .if1 .taken, eq-eqb (a .selected) (a .t .last) (c .if2 .taken), neither)
-    (ap (λ n. withLast n (historyOf (a .t) sums backup)) (sym (c .if2 .taken)))
+    (ap (λ n. withLast n (historyOf (a .t) sums building backup)) (sym (c .if2 .taken)))
 
 returns-2 : tie.Need-returns-2
-unfolding noted withLast withBlocks refilled
-returns-2 c sums backup =
+unfolding noted withLast startsBuilding withBlocks
+returns-2 c sums building backup =
     let b = c .before .before .before .before in
     let a = b .before .before .args in
     rw (
@@ -32,17 +32,17 @@ returns-2 c sums backup =
       eq-eqb (a .policy) 0 (c .before .if3 .taken),
       ne-eqb (a .selected) (a .t .last) (c .before .before .if2 .left),
     )
-    (c .emptied .ensures sums backup)
+    (c .starts-building .ensures sums building backup)
 
 returns-3 : tie.Need-returns-3
 unfolding noted withLast
-returns-3 c sums backup =
+returns-3 c sums building backup =
     let b = c .before .before .before in
     rw (← b .before .one-to-eight .ensures, b .if1 .taken, ne-eqb (b .before .before .args .policy) 0 (c .if3 .left))
 
 returns-4 : tie.Need-returns-4
 unfolding noted
-returns-4 c sums backup = rw (← c .before .one-to-eight .ensures, c .if1 .left)
+returns-4 c sums building backup = rw (← c .before .one-to-eight .ensures, c .if1 .left)
 
 pub noted-spec : {M : Type 1} → statement M
 noted-spec = tie.close (tie.spec (search needs) returns (search needs) returns-2 returns-3 returns-4)

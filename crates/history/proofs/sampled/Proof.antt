@@ -1,20 +1,18 @@
--- The open block's sum is the rule's, and where the block is complete, so are the kept sums with it.
+-- The open block's sum is the rule's.
 use Prim.Native.Nat.{_+_}
 use mathlib.Core.Path.{_≡_, refl, ap, _∙_}
-use mathlib.Core.Bool.{true≢false}
-use mathlib.Core.List.{_∷_}
+use mathlib.Core.Bool.{not, true≢false}
 use native.Mathlib.Omega.{arith}
-use lib.IntN.{ℤ, _+ℤ_}
-use lib.ListN.{take}
+use lib.Dec.{eqb}
+use lib.IntN.{_+ℤ_}
 use mir.Syntax.{w64}
 use mir.Val.{toZ, ofZ}
 use mir.Facts.{toZ-ofZ}
 use borrow.Author.Tests.{le-leb, lt-leb}
 use borrow.Author.Needs.{needs}
-use Rattle.rules.specs.History.{saturated, refilled, withBlocks, sampled}
+use Rattle.rules.specs.History.{saturated, refilled, completed, sampled}
 use Rattle.history.specs.Bridge.{keptOf, historyOf}
 use Rattle.history.proofs.Sums.{stored, saturated-again}
-use Rattle.history.proofs.Kept.{kept-push}
 use Rattle.history.proofs.sampled.Statement.{statement}
 use Rattle.history.proofs.sampled.Tie as tie
 
@@ -29,30 +27,26 @@ sum-is c =
     ∙ saturated-again (saturated (s .args .t .open) +ℤ s .args .x)
 
 returns : tie.Need-returns
-unfolding sampled refilled
+unfolding sampled
 returns c =
     let t = c .before .before .before .before .before .args .t in
     record {
-      step = λ sums backup.
+      step = λ sums building backup.
           rw (lt-leb 128 (t .filled + 1) (omega arith))
-          (λ i. refilled (keptOf sums (t .count)) (sum-is (c .before .before .before) i) (t .filled + 1) (historyOf t sums backup));
+          (λ i. refilled (keptOf sums (t .count)) (not (eqb (t .builds) 0)) (keptOf building (t .built)) (sum-is (c .before .before .before) i) (t .filled + 1)
+          (historyOf t sums building backup));
       none = λ h. refl;
     }
 
 returns-2 : tie.Need-returns-2
-unfolding sampled withBlocks refilled saturated
+unfolding sampled
 returns-2 c =
-    let t = c .before .before .before .before .before .args .t in
-    let l = c .before .before .before in
+    let t = c .before .before .before .before .args .t in
     record {
-      step = λ sums backup.
-          rw (le-leb 128 (t .filled + 1) (omega arith))
-          (λ i. withBlocks
-          ((kept-push (toZ w64 (ofZ w64 (l .summed .result))) sums (t .count) (c .least .result + 1) (omega arith)
-          ∙ ap (λ (z : ℤ). take 64 (z ∷ keptOf sums (t .count))) (sum-is l)) i)
-          (historyOf t sums backup));
+      step = λ sums building backup.
+          rw (le-leb 128 (t .filled + 1) (omega arith)) (λ i. completed (sum-is (c .before .before) i) (historyOf t sums building backup));
       none = λ h. absurd (true≢false h);
     }
 
 pub sampled-spec : {M : Type 1} → statement M
-sampled-spec = tie.close (tie.spec (search needs) (search needs) returns (search needs) (search needs) returns-2)
+sampled-spec = tie.close (tie.spec (search needs) (search needs) returns returns-2)

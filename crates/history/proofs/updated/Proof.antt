@@ -10,10 +10,10 @@ returns : tie.Need-returns
 unfolding recorded
 returns c =
     record {
-      step = λ sums backup.
+      step = λ sums building backup.
           rw (c .before .if1 .taken)
-          (c .sampled .ensures .step sums backup
-          ∙ (λ i. sampled (toZ-ofZ (c .before .before .before .fits .x) i) (c .before .before .noted .ensures sums backup i)));
+          (c .sampled .ensures .step sums building backup
+          ∙ (λ i. sampled (toZ-ofZ (c .before .before .before .fits .x) i) (c .before .before .noted .ensures sums building backup i)));
       none = c .sampled .ensures .none;
     }
 
@@ -21,8 +21,8 @@ returns-2 : tie.Need-returns-2
 unfolding recorded
 returns-2 c =
     record {
-      step = λ sums backup.
-          rw (c .before .if1 .left) (c .open-emptied .ensures sums backup ∙ ap openEmptied (c .before .before .noted .ensures sums backup));
+      step = λ sums building backup.
+          rw (c .before .if1 .left) (c .open-emptied .ensures sums building backup ∙ ap openEmptied (c .before .before .noted .ensures sums building backup));
       none = λ h. refl;
     }
 
