@@ -11,14 +11,14 @@ use Rattle.selection.specs.Bridge.{choiceOf}
 use Rattle.history.specs.Bridge.{historyOf}
 use Rattle.tick.specs.declared.Core.{Core}
 
--- THE BRIDGE: the rules' state that a core is, with the inputs' rows, the registers, the kept sums and the backup's
-abbrev pub stateOf : Core → Monitors → List ℕ → List ℤ → List ℤ → State
-stateOf k m regs sums backup =
+-- THE BRIDGE: the rules' state that a core is, with the inputs' rows, the registers, the sums in use, those of the building history and the backup's
+abbrev pub stateOf : Core → Monitors → List ℕ → List ℤ → List ℤ → List ℤ → State
+stateOf k m regs sums building backup =
     record {
       inputs = inputsOf m;
       settings = settingsFrom regs;
       loop = loopOf (k .pll);
       choice = choiceOf (k .choice);
-      history = historyOf (k .tally) sums backup;
+      history = historyOf (k .tally) sums building backup;
       holding = k .holding;
     }

@@ -69,8 +69,9 @@ pub fn tick(
     regs: &[u8; 27],
     keys: &[u16; 9],
     sums: &mut [i64; 64],
+    building: &mut [i64; 64],
 ) -> Core
-    ensures { λ r. ⌜ across level decay active (now (frequency .entry)) remainder soak (λ before after. (backup : List ℤ) → length (now (sums .entry)) ≡ 64 → now (keys .entry) ≡ keysFrom (settingsFrom (now (regs .entry))) → stateOf r after (now (regs .entry)) (now (sums .exit)) backup ≡ rules.ticked mask lock x (stateOf k before (now (regs .entry)) (now (sums .entry)) backup)) ⌝ }
+    ensures { λ r. ⌜ across level decay active (now (frequency .entry)) remainder soak (λ before after. (backup : List ℤ) → length (now (sums .entry)) ≡ 64 → now (keys .entry) ≡ keysFrom (settingsFrom (now (regs .entry))) → stateOf r after (now (regs .entry)) (now (sums .exit)) (now (building .exit)) backup ≡ rules.ticked mask lock x (stateOf k before (now (regs .entry)) (now (sums .entry)) (now (building .entry)) backup)) ⌝ }
 {
     // steps 1 and 2
     monitor::watched(mask, level, decay, active, frequency, remainder, soak);
@@ -97,6 +98,7 @@ pub fn tick(
         x,
         k.tally,
         sums,
+        building,
     );
     Core {
         tally: tally,

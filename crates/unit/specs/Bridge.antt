@@ -12,16 +12,17 @@ use Rattle.tick.specs.Bridge.{stateOf}
 use Rattle.tick.specs.declared.Core.{Core}
 use Rattle.unit.specs.declared.Unit as code
 
--- the numbers by value, and what lies in arrays: the inputs' rows, the registers, the kept sums and the backup's
+-- the numbers by value, and what lies in arrays: the inputs' rows, the registers, the sums in use, those of the building history and the backup's
 pub record Stored : Type 0 where
   pub core : Core
   pub rows : Monitors
   pub regs : List ℕ
   pub sums : List ℤ
+  pub building : List ℤ
   pub backup : List ℤ
 
 abbrev pub meaning : Stored → State
-meaning s = stateOf (s .core) (s .rows) (s .regs) (s .sums) (s .backup)
+meaning s = stateOf (s .core) (s .rows) (s .regs) (s .sums) (s .building) (s .backup)
 
 -- What event e does to what is stored: number n and the state are the rules', and an event that is turned down leaves every stored number as it was.
 pub record Gives (s : Stored) (e : rules.Event) (n : ℕ) (t : Stored) : Type 0 where
@@ -40,6 +41,7 @@ partsOf u =
       rows = u .monitors;
       regs = u .regs;
       sums = u .history .sums;
+      building = u .history .building;
       backup = u .history .backup;
     }
 

@@ -12,8 +12,8 @@ use Rattle.unit.specs.Bridge.{Stored}
 abbrev pub Sums : Type 0
 Sums = Both (RefT (List ℤ)) (RefT (List ℤ))
 
-abbrev pub entering : Row → Row → Row → Row → Row → Row → Row → Sums → Sums → Core → Stored
-entering level decay active frequency remainder soak regs sums backup k =
+abbrev pub entering : Row → Row → Row → Row → Row → Row → Row → Sums → Sums → Sums → Core → Stored
+entering level decay active frequency remainder soak regs sums building backup k =
     record {
       core = k;
       rows =
@@ -27,11 +27,12 @@ entering level decay active frequency remainder soak regs sums backup k =
           };
       regs = now (regs .entry);
       sums = now (sums .entry);
+      building = now (building .entry);
       backup = now (backup .entry);
     }
 
-abbrev pub leaving : Row → Row → Row → Row → Row → Row → Row → Sums → Sums → Core → Stored
-leaving level decay active frequency remainder soak regs sums backup k =
+abbrev pub leaving : Row → Row → Row → Row → Row → Row → Row → Sums → Sums → Sums → Core → Stored
+leaving level decay active frequency remainder soak regs sums building backup k =
     record {
       core = k;
       rows =
@@ -45,11 +46,12 @@ leaving level decay active frequency remainder soak regs sums backup k =
           };
       regs = now (regs .exit);
       sums = now (sums .exit);
+      building = now (building .exit);
       backup = now (backup .exit);
     }
 
 -- what is said of them as a call begins and as it returns, each with a core
-abbrev pub across : Row → Row → Row → Row → Row → Row → Row → Sums → Sums → ((Core → Stored) → (Core → Stored) → Type 0) → Type 0
-across level decay active frequency remainder soak regs sums backup says =
-    says (entering level decay active frequency remainder soak regs sums backup)
-    (leaving level decay active frequency remainder soak regs sums backup)
+abbrev pub across : Row → Row → Row → Row → Row → Row → Row → Sums → Sums → Sums → ((Core → Stored) → (Core → Stored) → Type 0) → Type 0
+across level decay active frequency remainder soak regs sums building backup says =
+    says (entering level decay active frequency remainder soak regs sums building backup)
+    (leaving level decay active frequency remainder soak regs sums building backup)

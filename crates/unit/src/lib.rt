@@ -76,8 +76,9 @@ fn on_tick(
     regs: &[u8; 27],
     keys: &[u16; 9],
     sums: &mut [i64; 64],
+    building: &mut [i64; 64],
 ) -> Stepped
-    ensures { λ r. ⌜ rows.across level decay active (now (frequency .entry)) remainder soak (λ before after. (backup : List ℤ) → length (now (sums .entry)) ≡ 64 → now (keys .entry) ≡ keysFrom (settingsFrom (now (regs .entry))) → Gives (record { core = k; rows = before; regs = now (regs .entry); sums = now (sums .entry); backup = backup }) (events.tick mask lock x) (r .refusal) (record { core = r .core; rows = after; regs = now (regs .entry); sums = now (sums .exit); backup = backup })) ⌝ }
+    ensures { λ r. ⌜ rows.across level decay active (now (frequency .entry)) remainder soak (λ before after. (backup : List ℤ) → length (now (sums .entry)) ≡ 64 → now (keys .entry) ≡ keysFrom (settingsFrom (now (regs .entry))) → Gives (record { core = k; rows = before; regs = now (regs .entry); sums = now (sums .entry); building = now (building .entry); backup = backup }) (events.tick mask lock x) (r .refusal) (record { core = r .core; rows = after; regs = now (regs .entry); sums = now (sums .exit); building = now (building .exit); backup = backup })) ⌝ }
 {
     let ok = in_range(x);
     if ok {
@@ -95,6 +96,7 @@ fn on_tick(
             regs,
             keys,
             sums,
+            building,
         );
         return Stepped {
             refusal: 0,
@@ -109,7 +111,7 @@ fn on_tick(
 
 // A measurement, or refusal 6: "input not 1 to 8".
 fn on_measurement(i: u8, offset: u8, frequency: &mut [u16; 8], regs: &[u8; 27]) -> u8
-    ensures { λ r. ⌜ ((k : core.Core) (m : stored.Monitors) (sums backup : List ℤ) → Gives (record { core = k; rows = withFrequency m (now (frequency .entry)); regs = now (regs .entry); sums = sums; backup = backup }) (events.measurement i (signedByte offset)) r (record { core = k; rows = withFrequency m (now (frequency .exit)); regs = now (regs .entry); sums = sums; backup = backup })) ⌝ }
+    ensures { λ r. ⌜ ((k : core.Core) (m : stored.Monitors) (sums building backup : List ℤ) → Gives (record { core = k; rows = withFrequency m (now (frequency .entry)); regs = now (regs .entry); sums = sums; building = building; backup = backup }) (events.measurement i (signedByte offset)) r (record { core = k; rows = withFrequency m (now (frequency .exit)); regs = now (regs .entry); sums = sums; building = building; backup = backup })) ⌝ }
 {
     let ok = one_to_eight(i);
     if ok {
@@ -123,7 +125,7 @@ fn on_measurement(i: u8, offset: u8, frequency: &mut [u16; 8], regs: &[u8; 27]) 
 
 // A Hit, or refusal 5: "Hit with no reference 1 to 8 selected".
 fn on_hit(k: Core, soak: &mut [u16; 8]) -> Stepped
-    ensures { λ r. ⌜ ((m : stored.Monitors) (regs : List ℕ) (sums backup : List ℤ) → length sums ≡ 64 → Gives (record { core = k; rows = withSoak m (now (soak .entry)); regs = regs; sums = sums; backup = backup }) events.hit (r .refusal) (record { core = r .core; rows = withSoak m (now (soak .exit)); regs = regs; sums = sums; backup = backup })) ⌝ }
+    ensures { λ r. ⌜ ((m : stored.Monitors) (regs : List ℕ) (sums building backup : List ℤ) → length sums ≡ 64 → Gives (record { core = k; rows = withSoak m (now (soak .entry)); regs = regs; sums = sums; building = building; backup = backup }) events.hit (r .refusal) (record { core = r .core; rows = withSoak m (now (soak .exit)); regs = regs; sums = sums; building = building; backup = backup })) ⌝ }
 {
     let ok = one_to_eight(k.choice.selected);
     if ok {
@@ -156,7 +158,7 @@ fn write_accepted(
     sums: &mut [i64; 64],
     backup: &mut [i64; 64],
 ) -> Tally
-    ensures { λ r. ⌜ ((k : core.Core) (m : stored.Monitors) → inMap a ≡ true → stateOf (withTally k r) m (now (regs .exit)) (now (sums .exit)) (now (backup .exit)) ≡ afterWrite a v (stateOf (withTally k t) m (now (regs .entry)) (now (sums .entry)) (now (backup .entry)))) ⌝ }
+    ensures { λ r. ⌜ ((k : core.Core) (m : stored.Monitors) (building : List ℤ) → inMap a ≡ true → stateOf (withTally k r) m (now (regs .exit)) (now (sums .exit)) building (now (backup .exit)) ≡ afterWrite a v (stateOf (withTally k t) m (now (regs .entry)) (now (sums .entry)) building (now (backup .entry)))) ⌝ }
 {
     if a == 0x26 {
         return history::commanded(v, t, sums, backup);
@@ -175,7 +177,7 @@ fn on_write(
     sums: &mut [i64; 64],
     backup: &mut [i64; 64],
 ) -> Stepped
-    ensures { λ r. ⌜ ((m : stored.Monitors) → length (now (sums .entry)) ≡ 64 → length (now (backup .entry)) ≡ 64 → Gives (record { core = k; rows = m; regs = now (regs .entry); sums = now (sums .entry); backup = now (backup .entry) }) (events.write a v) (r .refusal) (record { core = r .core; rows = m; regs = now (regs .exit); sums = now (sums .exit); backup = now (backup .exit) })) ⌝ }
+    ensures { λ r. ⌜ ((m : stored.Monitors) (building : List ℤ) → length (now (sums .entry)) ≡ 64 → length (now (backup .entry)) ≡ 64 → Gives (record { core = k; rows = m; regs = now (regs .entry); sums = now (sums .entry); building = building; backup = now (backup .entry) }) (events.write a v) (r .refusal) (record { core = r .core; rows = m; regs = now (regs .exit); sums = now (sums .exit); building = building; backup = now (backup .exit) })) ⌝ }
     ensures { λ _. ⌜ (now (keys .entry) ≡ keysFrom (settingsFrom (now (regs .entry))) → now (keys .exit) ≡ keysFrom (settingsFrom (now (regs .exit)))) ⌝ }
 {
     let number = writes::write_refusal(
@@ -218,9 +220,10 @@ pub fn step(
     regs: &mut [u8; 27],
     keys: &mut [u16; 9],
     sums: &mut [i64; 64],
+    building: &mut [i64; 64],
     backup: &mut [i64; 64],
 ) -> Stepped
-    ensures { λ r. ⌜ across level decay active frequency remainder soak regs sums backup (λ before after. now (keys .entry) ≡ keysFrom (settingsFrom (now (regs .entry))) → Gives (before k) (eventOf e) (r .refusal) (after (r .core))) ⌝ }
+    ensures { λ r. ⌜ across level decay active frequency remainder soak regs sums building backup (λ before after. now (keys .entry) ≡ keysFrom (settingsFrom (now (regs .entry))) → Gives (before k) (eventOf e) (r .refusal) (after (r .core))) ⌝ }
     ensures { λ _. ⌜ (now (keys .entry) ≡ keysFrom (settingsFrom (now (regs .entry))) → now (keys .exit) ≡ keysFrom (settingsFrom (now (regs .exit)))) ⌝ }
 {
     places(*sums);
@@ -240,6 +243,7 @@ pub fn step(
             regs,
             keys,
             sums,
+            building,
         ),
         Event::Measurement(i, offset) => {
             let refused = on_measurement(i, offset, frequency, regs);
@@ -271,7 +275,7 @@ pub fn write(
     sums: &mut [i64; 64],
     backup: &mut [i64; 64],
 ) -> Stepped
-    ensures { λ r. ⌜ ((m : stored.Monitors) → Gives (record { core = k; rows = m; regs = now (regs .entry); sums = now (sums .entry); backup = now (backup .entry) }) (events.write a v) (r .refusal) (record { core = r .core; rows = m; regs = now (regs .exit); sums = now (sums .exit); backup = now (backup .exit) })) ⌝ }
+    ensures { λ r. ⌜ ((m : stored.Monitors) (building : List ℤ) → Gives (record { core = k; rows = m; regs = now (regs .entry); sums = now (sums .entry); building = building; backup = now (backup .entry) }) (events.write a v) (r .refusal) (record { core = r .core; rows = m; regs = now (regs .exit); sums = now (sums .exit); building = building; backup = now (backup .exit) })) ⌝ }
     ensures { λ _. ⌜ (now (keys .entry) ≡ keysFrom (settingsFrom (now (regs .entry))) → now (keys .exit) ≡ keysFrom (settingsFrom (now (regs .exit)))) ⌝ }
 {
     places(*sums);
@@ -348,6 +352,7 @@ pub fn handle(e: Event, u: Unit) -> Outcome
     let mut regs = u.regs;
     let h = u.history;
     let mut sums = h.sums;
+    let mut building = h.building;
     let mut backup = h.backup;
     let mut keys = candidates::keys_of(&regs);
     let s = step(
@@ -362,6 +367,7 @@ pub fn handle(e: Event, u: Unit) -> Outcome
         &mut regs,
         &mut keys,
         &mut sums,
+        &mut building,
         &mut backup,
     );
     let c = s.core;
@@ -382,6 +388,7 @@ pub fn handle(e: Event, u: Unit) -> Outcome
             history: History {
                 tally: tally,
                 sums: sums,
+                building: building,
                 backup: backup,
             },
             choice: choice,

@@ -8,6 +8,7 @@ ghost use Rattle.rules.specs.Reading.{twos};
 ghost use Rattle.history.specs.Bridge.{keptOf, wholeOf};
 ghost use Rattle.value.specs.Signed.{bySign};
 use arith::least;
+use arith::wide16;
 use history::History;
 use history::within;
 
@@ -78,7 +79,7 @@ pub fn twos(z: i64) -> u32
 
 // ---- the value
 
-// `sumOf` the kept block sums.
+// `sumOf` the block sums in use.
 pub fn total(sums: [i64; 64], count: u16) -> i64
     ensures { λ r. ⌜ r ≡ sumOf (keptOf sums count) ⌝ }
 {
@@ -97,6 +98,7 @@ pub fn value(h: History) -> i64
     ensures { λ r. ⌜ r ≡ value (wholeOf h) ⌝ }
 {
     let sums = h.sums;
-    let n = least(h.tally.count, 64) as u64;
-    floor_div(total(sums, h.tally.count), 128 * n)
+    let count = wide16(h.tally.count);
+    let n = least(count, 64) as u64;
+    floor_div(total(sums, count), 128 * n)
 }

@@ -34,7 +34,7 @@ watchedRows c =
 returns : tie.Need-returns
 unfolding inputsAfter loopAfter steps1to4 step5 ticked
 returns c backup h e =
-    let kept = c .before .before in
+    let kept = c .before .before .before in
     let held = kept .before .before in
     let turned = held .before in
     let ready = turned .before in
@@ -56,11 +56,11 @@ returns c backup h e =
     let after = withLockAlarms rows (alarms .alarmed .last .1 .1 .0) (alarms .alarmed .last .1 .1 .1 .0) in
     let choice = choosing .chosen .ensures after e ∙ ap (λ (l : Inputs). chosen set l (choiceOf (k .choice))) inputs in
     let steering = turned .steered .ensures
-    ∙ (λ i. steered (auto .is-automatic .ensures i) (op .setting .ensures i) (ready .is-ready .ensures (now (a .sums)) backup h i) selected (choice i .selected) (loop i)) in
+    ∙ (λ i. steered (auto .is-automatic .ensures i) (op .setting .ensures i) (ready .is-ready .ensures (now (a .sums)) (now (a .building)) backup h i) selected (choice i .selected) (loop i)) in
     let holding = held .holding-after .ensures ∙ (λ i. holdingAfter (modeOf (k .pll .mode)) (steering i .mode) (k .holding)) in
     let tracked = kept .is-locked .ensures ∙ (λ i. is locked (steering i .mode)) in
     let history = c .recorded .ensures backup
-    ∙ (λ i. recorded (kept .before .setting2 .ensures i) (choice i .selected) (tracked i) (toZ-ofZ (start .fits .x) i) (historyOf (k .tally) (now (a .sums)) backup)) in
+    ∙ (λ i. recorded (kept .before .setting2 .ensures i) (choice i .selected) (tracked i) (toZ-ofZ (start .fits .x) i) (historyOf (k .tally) (now (a .sums)) (now (a .building)) backup)) in
     λ i. record {
       inputs = inputs i;
       settings = set;

@@ -12,7 +12,7 @@ use Rattle.unit.proofs.on_hit.Tie as tie
 
 returns : tie.Need-returns
 unfolding refusal effect afterHit
-returns c m regs sums backup h =
+returns c m regs sums building backup h =
     let loop = c .before .before in
     let ready = loop .before in
     let hitting = ready .before in
@@ -21,15 +21,15 @@ returns c m regs sums backup h =
     (λ i. record {
       inputs = hitting .unsoak .ensures m i;
       settings = settingsFrom regs;
-      loop = (loop .loop-after-hit .ensures ∙ ap unselectedLoop (ready .is-ready .ensures sums backup h)) i;
+      loop = (loop .loop-after-hit .ensures ∙ ap unselectedLoop (ready .is-ready .ensures sums building backup h)) i;
       choice = c .before .settled .ensures i;
-      history = c .open-emptied .ensures sums backup i;
+      history = c .open-emptied .ensures sums building backup i;
       holding = 0;
     })
 
 returns-2 : tie.Need-returns-2
 unfolding refusal
-returns-2 c m regs sums backup h = turned-down _ hit (rw (← c .before .one-to-eight .ensures, c .if1 .left) refl) (λ z. omega arith)
+returns-2 c m regs sums building backup h = turned-down _ hit (rw (← c .before .one-to-eight .ensures, c .if1 .left) refl) (λ z. omega arith)
 
 pub on-hit-spec : {M : Type 1} → statement M
 on-hit-spec =

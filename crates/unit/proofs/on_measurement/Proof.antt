@@ -19,7 +19,7 @@ use Rattle.unit.proofs.on_measurement.Tie as tie
 
 returns : tie.Need-returns
 unfolding refusal effect afterMeasurement
-returns c k m sums backup =
+returns c k m sums building backup =
     let limits = c .before .before in
     let tested = limits .before .before in
     let a = tested .before .before .args in
@@ -32,13 +32,13 @@ returns c k m sums backup =
       settings = settingsFrom (now (a .regs));
       loop = loopOf (k .pll);
       choice = choiceOf (k .choice);
-      history = historyOf (k .tally) sums backup;
+      history = historyOf (k .tally) sums building backup;
       holding = k .holding;
     })
 
 returns-2 : tie.Need-returns-2
 unfolding refusal
-returns-2 c k m sums backup =
+returns-2 c k m sums building backup =
     let a = c .before .before .args in
     turned-down _ (measurement (a .i) (signedByte (a .offset))) (rw (← c .before .one-to-eight .ensures, c .if1 .left) refl) (λ z. omega arith)
 

@@ -17,7 +17,7 @@ use Rattle.unit.proofs.on_tick.Tie as tie
 returns : tie.Need-returns
 unfolding refusal effect
 returns c backup h e =
-    let t = c .before .before .before .before .before .before in
+    let t = c .before .before .before .before .before .before .before in
     let start = t .before .before .before in
     let a = start .args in
     let told = toZ-ofZ (start .fits .x) in
@@ -34,6 +34,7 @@ returns c backup h e =
           };
       regs = now (a .regs);
       sums = now (a .sums);
+      building = now (a .building);
       backup = backup;
     } in
     accepted s _ (tick (a .mask) (a .lock) (a .x))

@@ -27,7 +27,7 @@ sample c = search needs
 
 returns : tie.Need-returns
 returns c =
-    let known = c .before .before .before .before .before .before .before .before .before .before in
+    let known = c .before .before .before .before .before .before .before .before .before .before .before in
     let told = known .before in
     let sized = told .before .before .before .before in
     let a = sized .before .before .args in (
@@ -42,7 +42,7 @@ returns-2 c =
     let told = c .before .before .before .before in
     let start = told .before .before .before .before .before .before in
     let a = start .args in
-    ((λ keyed. rw (told .e2 .given .1) (c .on-measurement .ensures (a .k) (rows start) (now (a .sums)) (now (a .backup)))), (λ keyed. keyed))
+    ((λ keyed. rw (told .e2 .given .1) (c .on-measurement .ensures (a .k) (rows start) (now (a .sums)) (now (a .building)) (now (a .backup)))), (λ keyed. keyed))
 
 returns-3 : tie.Need-returns-3
 returns-3 c =
@@ -50,7 +50,7 @@ returns-3 c =
     let sized = told .before .before .before .before in
     let start = sized .before .before in
     let a = start .args in
-    ((λ keyed. rw (told .enum-told .given .1) (c .on-hit .ensures (rows start) (now (a .regs)) (now (a .sums)) (now (a .backup)) (sized .places .ensures))), (λ keyed. keyed))
+    ((λ keyed. rw (told .enum-told .given .1) (c .on-hit .ensures (rows start) (now (a .regs)) (now (a .sums)) (now (a .building)) (now (a .backup)) (sized .places .ensures))), (λ keyed. keyed))
 
 returns-4 : tie.Need-returns-4
 returns-4 c =
@@ -59,7 +59,7 @@ returns-4 c =
     let second = told .before .before in
     let sized = second .before .before in
     let start = sized .before .before in
-    ((λ keyed. rw (told .e3 .given .1) (w .on-write .ensures .0 (rows start) (sized .places .ensures) (second .places2 .ensures))), w .on-write .ensures .1)
+    ((λ keyed. rw (told .e3 .given .1) (w .on-write .ensures .0 (rows start) (now (start .args .building)) (sized .places .ensures) (second .places2 .ensures))), w .on-write .ensures .1)
 
 pub step-spec : {M : Type 1} → statement M
 step-spec =
