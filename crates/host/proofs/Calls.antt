@@ -13,7 +13,7 @@ abbrev unitOf : Stored → code.Unit
 unitOf s =
     record {
       monitors = s .rows;
-      history = record { tally = s .core .tally; sums = s .sums; backup = s .backup };
+      history = record { tally = s .core .tally; sums = s .sums; building = s .building; backup = s .backup };
       choice = s .core .choice;
       holding = s .core .holding;
       pll = s .core .pll;

@@ -18,7 +18,7 @@ returns c =
     let tested = c .before .before in
     let start = tested .before .before .before in
     let h = start .args .u .history in
-    let ready = tested .before .is-ready .ensures (h .sums) (h .backup) (places start) in
+    let ready = tested .before .is-ready .ensures (h .sums) (h .building) (h .backup) (places start) in
     let v = c .before .value .result in
     let told : toZ w64 (ofZ w64 v) ≡ v = stored v (search needs) in
     rw (← ready, tested .if1 .taken) (c .twos .ensures ∙ ap twos (told ∙ c .before .value .ensures))
@@ -27,7 +27,7 @@ returns-2 : tie.Need-returns-2
 returns-2 c =
     let start = c .before .before .before in
     let h = start .args .u .history in
-    rw (← c .before .is-ready .ensures (h .sums) (h .backup) (places start), c .if1 .left) refl
+    rw (← c .before .is-ready .ensures (h .sums) (h .building) (h .backup) (places start), c .if1 .left) refl
 
 pub value-bits-spec : {M : Type 1} → statement M
 value-bits-spec =
