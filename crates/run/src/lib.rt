@@ -23,7 +23,7 @@ use tick::Core;
 // The rule `recordOf`, at the front of a part of the output.
 fn put_record(out: &mut [u8], refusal: u8, k: Core, soak: &[u16; 8])
     requires { ⌜ 4 ≤ length (now out) ⌝ }
-    ensures { λ _. ⌜ ((m : stored.Monitors) (regs : List ℕ) (sums backup : List ℤ) → length sums ≡ 64 → length backup ≡ 64 → now (out .exit) ≡ over (recordOf (record { refusal = refusal; state = stateOf k (withSoak m (now (soak .entry))) regs sums backup })) (now (out .entry))) ⌝ }
+    ensures { λ _. ⌜ ((m : stored.Monitors) (regs : List ℕ) (sums building backup : List ℤ) → length sums ≡ 64 → length backup ≡ 64 → now (out .exit) ≡ over (recordOf (record { refusal = refusal; state = stateOf k (withSoak m (now (soak .entry))) regs sums building backup })) (now (out .entry))) ⌝ }
 {
     let status = readout::status_byte(k);
     let state = readout::state_byte(k);
@@ -47,8 +47,8 @@ fn run_settings(
     out: &mut [u8],
 ) -> Core
     requires { ⌜ (2 * n ≤ length (now part)) × (4 * n ≤ length (now out)) × (now keys ≡ keysFrom (settingsFrom (now regs))) ⌝ }
-    ensures { λ r. ⌜ ((m : stored.Monitors) → stateOf r (withSoak m (now (soak .entry))) (now (regs .exit)) (now (sums .exit)) (now (backup .exit)) ≡ rules.run (stateOf start (withSoak m (now (soak .entry))) (now (regs .entry)) (now (sums .entry)) (now (backup .entry))) (settingsOf n (now (part .entry)))) ⌝ }
-    ensures { λ _. ⌜ ((m : stored.Monitors) → now (out .exit) ≡ over (records (stateOf start (withSoak m (now (soak .entry))) (now (regs .entry)) (now (sums .entry)) (now (backup .entry))) (settingsOf n (now (part .entry)))) (now (out .entry))) ⌝ }
+    ensures { λ r. ⌜ ((m : stored.Monitors) (building : List ℤ) → stateOf r (withSoak m (now (soak .entry))) (now (regs .exit)) (now (sums .exit)) building (now (backup .exit)) ≡ rules.run (stateOf start (withSoak m (now (soak .entry))) (now (regs .entry)) (now (sums .entry)) building (now (backup .entry))) (settingsOf n (now (part .entry)))) ⌝ }
+    ensures { λ _. ⌜ ((m : stored.Monitors) (building : List ℤ) → now (out .exit) ≡ over (records (stateOf start (withSoak m (now (soak .entry))) (now (regs .entry)) (now (sums .entry)) building (now (backup .entry))) (settingsOf n (now (part .entry)))) (now (out .entry))) ⌝ }
     ensures { λ _. ⌜ now (keys .exit) ≡ keysFrom (settingsFrom (now (regs .exit))) ⌝ }
 {
     let mut k = start;
@@ -76,11 +76,12 @@ fn run_events(
     regs: &mut [u8; 27],
     keys: &mut [u16; 9],
     sums: &mut [i64; 64],
+    building: &mut [i64; 64],
     backup: &mut [i64; 64],
     out: &mut [u8],
 )
     requires { ⌜ (8 * n ≤ length (now part)) × (4 * n ≤ length (now out)) × (now keys ≡ keysFrom (settingsFrom (now regs))) ⌝ }
-    ensures { λ _. ⌜ now (out .exit) ≡ over (records (stateOf start m (now (regs .entry)) (now (sums .entry)) (now (backup .entry))) (eventsOf n (now (part .entry)))) (now (out .entry)) ⌝ }
+    ensures { λ _. ⌜ now (out .exit) ≡ over (records (stateOf start m (now (regs .entry)) (now (sums .entry)) (now (building .entry)) (now (backup .entry))) (eventsOf n (now (part .entry)))) (now (out .entry)) ⌝ }
 {
     let mut level = m.level;
     let mut decay = m.decay;
@@ -108,6 +109,7 @@ fn run_events(
             regs,
             keys,
             sums,
+            building,
             backup,
         );
         places(*sums);
@@ -137,6 +139,7 @@ pub fn run_into(sheet: &[u8], out: &mut [u8]) -> usize
     let mut regs = u.regs;
     let h = u.history;
     let mut sums = h.sums;
+    let mut building = h.building;
     let mut backup = h.backup;
     let mut keys = candidates::keys_of(&regs);
     let k = run_settings(
@@ -160,6 +163,7 @@ pub fn run_into(sheet: &[u8], out: &mut [u8]) -> usize
         &mut regs,
         &mut keys,
         &mut sums,
+        &mut building,
         &mut backup,
         &mut out[next..],
     );

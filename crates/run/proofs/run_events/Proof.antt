@@ -24,19 +24,19 @@ use Rattle.run.proofs.run_events.Statement.{statement}
 use Rattle.run.proofs.run_events.Tie as tie
 
 -- the state that lies in these arrays
-abbrev lying : Core → List ℕ → List ℕ → List ℕ → List ℕ → List ℕ → List ℕ → List ℕ → List ℤ → List ℤ → State
-lying k level decay active frequency remainder soak regs sums backup =
-    stateOf k (record { level = level; decay = decay; active = active; frequency = frequency; remainder = remainder; soak = soak }) regs sums backup
+abbrev lying : Core → List ℕ → List ℕ → List ℕ → List ℕ → List ℕ → List ℕ → List ℕ → List ℤ → List ℤ → List ℤ → State
+lying k level decay active frequency remainder soak regs sums building backup =
+    stateOf k (record { level = level; decay = decay; active = active; frequency = frequency; remainder = remainder; soak = soak }) regs sums building backup
 
 abbrev Inv-loop : tie.InvT-loop
-Inv-loop part n regs₀ keys₀ sums₀ backup₀ out₀ level₀ decay₀ active₀ frequency₀ remainder₀ soak₀ k₀ i₀ regs keys sums backup out level decay active frequency remainder soak k i =
+Inv-loop part n regs₀ keys₀ sums₀ building₀ backup₀ out₀ level₀ decay₀ active₀ frequency₀ remainder₀ soak₀ k₀ i₀ regs keys sums building backup out level decay active frequency remainder soak k i =
     (i ≤ n)
     × (keys ≡ keysFrom (settingsFrom regs))
-    × Going (records (lying k₀ level₀ decay₀ active₀ frequency₀ remainder₀ soak₀ regs₀ sums₀ backup₀) (eventsOf n part)) out₀ (4 * i)
-    (lying k level decay active frequency remainder soak regs sums backup) (eventsOf (n - i) (drop (8 * i) part)) out
+    × Going (records (lying k₀ level₀ decay₀ active₀ frequency₀ remainder₀ soak₀ regs₀ sums₀ building₀ backup₀) (eventsOf n part)) out₀ (4 * i)
+    (lying k level decay active frequency remainder soak regs sums building backup) (eventsOf (n - i) (drop (8 * i) part)) out
 
 abbrev μ-loop : tie.MeasureT-loop
-μ-loop part n regs₀ keys₀ sums₀ backup₀ out₀ level₀ decay₀ active₀ frequency₀ remainder₀ soak₀ k₀ i₀ regs keys sums backup out level decay active frequency remainder soak k i =
+μ-loop part n regs₀ keys₀ sums₀ building₀ backup₀ out₀ level₀ decay₀ active₀ frequency₀ remainder₀ soak₀ k₀ i₀ regs keys sums building backup out level decay active frequency remainder soak k i =
     n - i
 
 -- what was read is what stands at the event's place
@@ -55,7 +55,7 @@ loop-holds c =
     let a = start .args in (
       search needs,
       start .pre .2,
-      rw (sub-zero (a .n)) (going-start (stateOf (a .start) (a .m) (now (a .regs)) (now (a .sums)) (now (a .backup))) (eventsOf (a .n) (now (a .part))) (now (a .out))),
+      rw (sub-zero (a .n)) (going-start (stateOf (a .start) (a .m) (now (a .regs)) (now (a .sums)) (now (a .building)) (now (a .backup))) (eventsOf (a .n) (now (a .part))) (now (a .out))),
     )
 
 -- within a turn there is room for the event's record
@@ -75,7 +75,7 @@ returns c =
 
 -- the turn in which a step was made
 abbrev turn : tie.After-step Inv-loop μ-loop → tie.In-loop Inv-loop μ-loop
-turn c = c .before .before .before .before .before .before .before .before .before .before .before .before .before .before .before .before
+turn c = c .before .before .before .before .before .before .before .before .before .before .before .before .before .before .before .before .before
 
 put-record-requires : tie.Need-put-record-requires Inv-loop μ-loop
 put-record-requires c κs =
@@ -93,7 +93,7 @@ loop-again c =
     let second = put .before .before .before .before in
     let first = second .before .before in
     let stepped = first .before .before in
-    let told = stepped .before .before .before .before .before .before .before .before .before .before .before .before in
+    let told = stepped .before .before .before .before .before .before .before .before .before .before .before .before .before in
     let read = told .before .before in
     let in-loop = read .before .before in
     let at-loop = in-loop .before in
@@ -113,7 +113,7 @@ loop-again c =
       after .1 (l .inv .1),
       going-put _ _ (4 * i) (4 * (i + 1)) _ _ _ _ _ _ _ (omega arith) (omega (arith, in-loop .loop-test .taken, at-loop .before .before .before .before .before .before .before .before .before .pre .1))
           (events-more _ _ _ (in-loop .loop-test .taken) _ (reads-at read _ (ap decodedOf (told .e .given .1)))) (after .0 (l .inv .1) .rules)
-          (put .put-record .ensures rows _ _ _ (first .places .ensures) (second .places2 .ensures)) (l .inv .2),
+          (put .put-record .ensures rows _ _ _ _ (first .places .ensures) (second .places2 .ensures)) (l .inv .2),
     )
 
 returns-2 : tie.Need-returns-2 Inv-loop μ-loop

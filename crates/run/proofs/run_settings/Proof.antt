@@ -1,8 +1,10 @@
 -- After i settings their records are written, and the rest, run from the state so far, gives the rest of them and the same state. The keys follow the registers.
 use Prim.Native.Nat.{ℕ, _≤_, _-_, _*_, _+_}
 use mathlib.Core.Path.{_≡_, refl, sym, ap, _∙_}
+use mathlib.Core.List.{List, []}
 use native.Mathlib.Nat.{sub-zero}
 use native.Mathlib.Omega.{arith}
+use lib.IntN.{ℤ}
 use lib.ListN.{length, drop, length-drop}
 use denote.Ref.{now}
 use borrow.Author.Needs.{needs}
@@ -24,8 +26,8 @@ Inv-loop part n soak regs₀ keys₀ sums₀ backup₀ out₀ k₀ i₀ regs key
     (i ≤ n)
     × (length out ≡ length out₀)
     × (keys ≡ keysFrom (settingsFrom regs))
-    × ((m : Monitors) → Going (records (stateOf k₀ (withSoak m soak) regs₀ sums₀ backup₀) (settingsOf n part)) out₀ (4 * i) (stateOf k (withSoak m soak) regs sums backup) (settingsOf (n - i) (drop (2 * i) part)) out)
-    × ((m : Monitors) → run (stateOf k (withSoak m soak) regs sums backup) (settingsOf (n - i) (drop (2 * i) part)) ≡ run (stateOf k₀ (withSoak m soak) regs₀ sums₀ backup₀) (settingsOf n part))
+    × ((m : Monitors) (building : List ℤ) → Going (records (stateOf k₀ (withSoak m soak) regs₀ sums₀ building backup₀) (settingsOf n part)) out₀ (4 * i) (stateOf k (withSoak m soak) regs sums building backup) (settingsOf (n - i) (drop (2 * i) part)) out)
+    × ((m : Monitors) (building : List ℤ) → run (stateOf k (withSoak m soak) regs sums building backup) (settingsOf (n - i) (drop (2 * i) part)) ≡ run (stateOf k₀ (withSoak m soak) regs₀ sums₀ building backup₀) (settingsOf n part))
 
 abbrev μ-loop : tie.MeasureT-loop
 μ-loop part n soak regs₀ keys₀ sums₀ backup₀ out₀ k₀ i₀ regs keys sums backup out k i = n - i
@@ -37,8 +39,8 @@ loop-holds c =
       search needs,
       refl,
       start .pre .2,
-      (λ m. rw (sub-zero (a .n)) (going-start (stateOf (a .start) (withSoak m (now (a .soak))) (now (a .regs)) (now (a .sums)) (now (a .backup))) (settingsOf (a .n) (now (a .part))) (now (a .out)))),
-      (λ m. ap (λ (k : ℕ). run (stateOf (a .start) (withSoak m (now (a .soak))) (now (a .regs)) (now (a .sums)) (now (a .backup))) (settingsOf k (now (a .part)))) (sub-zero (a .n))),
+      (λ m building. rw (sub-zero (a .n)) (going-start (stateOf (a .start) (withSoak m (now (a .soak))) (now (a .regs)) (now (a .sums)) building (now (a .backup))) (settingsOf (a .n) (now (a .part))) (now (a .out)))),
+      (λ m building. ap (λ (k : ℕ). run (stateOf (a .start) (withSoak m (now (a .soak))) (now (a .regs)) (now (a .sums)) building (now (a .backup))) (settingsOf k (now (a .part)))) (sub-zero (a .n))),
     )
 
 put-record-requires : tie.Need-put-record-requires Inv-loop μ-loop
@@ -73,18 +75,18 @@ loop-again c =
     let told = stepped .write .ensures in
     let row = now (a .soak) in
     let some : Monitors = record { level = row; decay = row; active = row; frequency = row; remainder = row; soak = row } in
-    let going : (m : Monitors) → _ = λ m.
+    let going : (m : Monitors) (building : List ℤ) → _ = λ m building.
     let rows = withSoak m (now (a .soak)) in
-    going-put _ _ (4 * i) (4 * (i + 1)) _ _ _ _ _ _ _ (omega arith) (omega (arith, l .inv .1)) more (told .0 rows .rules)
-    (put .put-record .ensures rows _ _ _ (first .places .ensures) (second .places2 .ensures)) (l .inv .3 m) in (
+    going-put _ _ (4 * i) (4 * (i + 1)) _ _ _ _ _ _ _ (omega arith) (omega (arith, l .inv .1)) more (told .0 rows building .rules)
+    (put .put-record .ensures rows _ _ building _ (first .places .ensures) (second .places2 .ensures)) (l .inv .3 m building) in (
       search needs,
-      going some .same,
+      going some [] .same,
       told .1 (l .inv .2),
       going,
-      (λ m.
+      (λ m building.
           let rows = withSoak m (now (a .soak)) in
-          ap (λ (o : rules.Outcome). run (o .state) rest) (told .0 rows .rules)
-          ∙ sym (ap (run (stateOf (l .k) rows (l .regs) (l .sums) (l .backup))) more) ∙ l .inv .4 m),
+          ap (λ (o : rules.Outcome). run (o .state) rest) (told .0 rows building .rules)
+          ∙ sym (ap (run (stateOf (l .k) rows (l .regs) (l .sums) building (l .backup))) more) ∙ l .inv .4 m building),
     )
 
 returns : tie.Need-returns Inv-loop μ-loop
@@ -96,8 +98,8 @@ returns c =
     let i = l .i in
     let e : a .n - i ≡ 0 = omega arith in
     let left = ap (λ (k : ℕ). settingsOf k (drop (2 * i) (now (a .part)))) e in (
-      (λ m. sym (ap (run (stateOf (l .k) (withSoak m (now (a .soak))) (l .regs) (l .sums) (l .backup))) left) ∙ l .inv .4 m),
-      ((λ m. going-done _ _ (4 * i) _ _ _ (omega (arith, l .inv .1)) left (l .inv .3 m)), l .inv .2),
+      (λ m building. sym (ap (run (stateOf (l .k) (withSoak m (now (a .soak))) (l .regs) (l .sums) building (l .backup))) left) ∙ l .inv .4 m building),
+      ((λ m building. going-done _ _ (4 * i) _ _ _ (omega (arith, l .inv .1)) left (l .inv .3 m building)), l .inv .2),
     )
 
 pub run-settings-spec : {M : Type 1} → statement M
