@@ -1,4 +1,4 @@
--- Demands 2 and 3 of the unit itself, proved: what the host holds is the rules' run.
+-- Demands 2 and 3, and request #102, of the unit itself, proved: what the host holds is the rules' run.
 use Prim.Native.Nat.{ℕ}
 use mathlib.Core.Path.{_≡_, refl, ap, sym, _∙_}
 use mathlib.Core.List.{List, [], _∷_, _++_}
@@ -14,11 +14,12 @@ use Rattle.rules.specs.Run.{outcome, run}
 use Rattle.rules.specs.Sheet.{Decoded, event, bad}
 use Rattle.rules.proofs.Counts.{least-delay}
 use Rattle.rules.proofs.Promise.{numbers, promise}
+use Rattle.rules.proofs.Comparison.{never-less-ready, ends-by-command-3}
 use Rattle.history.proofs.Kept.{ready-kept}
 use Rattle.unit.specs.Bridge.{modelOf}
 use Rattle.unit.specs.declared.Unit.{Unit as Stored}
 use Rattle.host.specs.Lent.{Places, Leads, wordOf}
-use Rattle.host.specs.Service.{Call, decoded, with, eventsOf, Lent, Holds, ownReady, Agreement, UnitPromise, UnitPromiseInFigures}
+use Rattle.host.specs.Service.{Call, decoded, with, eventsOf, Lent, Holds, ownReady, Agreement, UnitPromise, UnitPromiseInFigures, UnitNeverLessReady, UnitEndsByCommand3}
 
 -- one call: the rules go on from the state that it left
 goes-on : (u w : Stored) (d : Decoded) (n : ℕ) (es : List Event) → Leads u d n w → run (modelOf u) (with d es) ≡ run (modelOf w) es
@@ -70,3 +71,11 @@ unit-promise-in-figures before after later r n u h d p =
       selected-is = λ ticks. served .selected-is (omega (arith, numbers .qualify));
       ready-is = λ ticks. served .ready-is (omega (arith, numbers .qualify, numbers .fill));
     }
+
+-- REQUEST #102 OF THE UNIT
+pub unit-never-less-ready : UnitNeverLessReady
+unit-never-less-ready es u h old = agreement es u h .ready-is ∙ never-less-ready es old
+
+pub unit-ends-by-command-3 : UnitEndsByCommand3
+unit-ends-by-command-3 es e u v before after was is =
+    ends-by-command-3 es e (sym (agreement es u before .ready-is) ∙ was) (sym (agreement (es ++ e ∷ []) v after .ready-is) ∙ is)

@@ -1,17 +1,19 @@
--- Document 01, demands 2 and 3, of the unit itself: what a host holds that makes a unit and lends it for each event.
+-- Document 01, demands 2 and 3, and request #102, of the unit itself: what a host holds that makes a unit and lends it for each event.
 use Prim.Native.Nat.{ℕ, _+_, _≤_}
 use mathlib.Core.Path.{_≡_}
-use mathlib.Core.Bool.{Bool, true}
+use mathlib.Core.Bool.{Bool, true, false}
 use mathlib.Core.List.{List, [], _∷_, _++_}
 use lib.Dec.{leb}
 use lib.IntN.{ℤ}
-use Rattle.rules.specs.Events.{Event}
+use Rattle.rules.specs.Events.{Event, write}
 use Rattle.rules.specs.Settings.{delay}
 use Rattle.rules.specs.State.{State, selected, Ready}
 use Rattle.rules.specs.History.{readyBlocks}
 use Rattle.rules.specs.Registers.{fresh}
 use Rattle.rules.specs.Reading.{read}
+use Rattle.rules.specs.Refusals.{accepted}
 use Rattle.rules.specs.Run.{run}
+use Rattle.rules.specs.OldHistory.{oldRun}
 use Rattle.rules.specs.Sheet.{Decoded, event, bad, fields}
 use Rattle.rules.specs.Laws.{LeastDelay}
 use Rattle.rules.specs.Service.{Provisos, selectedTicks, readyTicks, acceptedTicks}
@@ -56,7 +58,7 @@ pub record Holds (es : List Event) (v : Stored) : Type 0 where
 
 -- ---- the unit's own fields
 
--- "the unit's own selected and Ready": the selected number in its choice; 43 blocks or more in its tally
+-- "the unit's own selected and Ready": the selected number in its choice; 43 blocks or more in use by its tally
 abbrev pub ownSelected : Stored → ℕ
 ownSelected u = u .choice .selected
 
@@ -102,3 +104,19 @@ UnitPromiseInFigures =
     → LeastDelay (delay (run fresh before .settings)) n
     → Provisos r (run fresh before) (after ++ later)
     → UnitServed (860 + n) (6_379 + n) r (run fresh before) after u
+
+-- ---- request #102: the building history, in the unit's own Ready
+
+-- The unit that the host holds is Ready after each list of events after which Ready stood under the old rules.
+abbrev pub UnitNeverLessReady : Type 0
+UnitNeverLessReady = (es : List Event) (u : Stored) → Holds es u → Ready (oldRun fresh es) ≡ true → ownReady u ≡ true
+
+-- Once it stands, it ends only with an accepted write of 3 to 0x26: u is what the host holds after a list of events, and v after one event more.
+abbrev pub UnitEndsByCommand3 : Type 0
+UnitEndsByCommand3 =
+    (es : List Event) (e : Event) (u v : Stored)
+    → Holds es u
+    → Holds (es ++ e ∷ []) v
+    → ownReady u ≡ true
+    → ownReady v ≡ false
+    → (e ≡ write 0x26 3) × (accepted (run fresh es) e ≡ true)
