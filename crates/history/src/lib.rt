@@ -125,13 +125,22 @@ pub fn open_emptied(t: Tally) -> Tally
     rest
 }
 
+// `replaced`: `count` blocks are in use, and the building history and the open block empty.
+fn replaced(count: u8, t: Tally) -> Tally
+    ensures { λ r. ⌜ ((old sums building backup : List ℤ) → historyOf r sums building backup ≡ replaced (keptOf sums count) (historyOf t old building backup)) ⌝ }
+{
+    let mut next = open_emptied(t);
+    next.count = count;
+    next.built = 0;
+    next
+}
+
 // `startsBuilding`: a building history with no block yet, and an empty open block.
 fn starts_building(t: Tally) -> Tally
     ensures { λ r. ⌜ Steps t r startsBuilding ⌝ }
 {
-    let mut next = open_emptied(t);
+    let mut next = replaced(t.count, t);
     next.builds = 1;
-    next.built = 0;
     next
 }
 
@@ -204,23 +213,20 @@ fn completed(sum: i64, t: Tally, sums: &mut [i64; 64], building: &mut [i64; 64])
     ensures { λ r. ⌜ ((backup : List ℤ) → historyOf r (now (sums .exit)) (now (building .exit)) backup ≡ rules.completed (saturated sum) (historyOf t (now (sums .entry)) (now (building .entry)) backup)) ⌝ }
 {
     places(*building);
-    let mut next = open_emptied(t);
     if t.builds == 0 {
         push(sums, sum);
-        next.count = one_more(t.count);
-        next.built = 0;
-        return next;
+        return replaced(one_more(t.count), t);
     }
     push(building, sum);
     if t.built < 42 {
+        let mut next = open_emptied(t);
         next.built = t.built + 1;
         return next;
     }
     let whole = *building;
     *sums = whole;
-    next.count = one_more(t.built);
+    let mut next = replaced(one_more(t.built), t);
     next.builds = 0;
-    next.built = 0;
     next
 }
 
@@ -244,16 +250,6 @@ pub fn recorded(
 }
 
 // ---- the commands
-
-// `replaced`: `count` blocks are in use, and the building history and the open block empty.
-fn replaced(count: u8, t: Tally) -> Tally
-    ensures { λ r. ⌜ ((old sums building backup : List ℤ) → historyOf r sums building backup ≡ replaced (keptOf sums count) (historyOf t old building backup)) ⌝ }
-{
-    let mut next = open_emptied(t);
-    next.count = count;
-    next.built = 0;
-    next
-}
 
 // `commanded`: 1 copies the blocks in use to backup, 2 replaces them by the backup, 3 empties them; 2 and 3 empty the building history and the open block too;
 // any other is only noted. No command touches the sums of the building history.

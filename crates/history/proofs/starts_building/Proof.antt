@@ -1,17 +1,15 @@
--- By definition, after the open block: no block is built where the count is 0.
+-- By definition, with the same blocks in use.
 use mathlib.Core.Path.{ap}
 use mathlib.Core.Bool.{true}
-use mathlib.Core.List.{[]}
 use borrow.Author.Needs.{needs}
-use Rattle.rules.specs.History.{History, refilled, withBlocks, openEmptied, startsBuilding}
-use Rattle.history.specs.Bridge.{keptOf}
+use Rattle.rules.specs.History.{History, refilled, withBlocks, startsBuilding, replaced}
 use Rattle.history.proofs.starts_building.Statement.{statement}
 use Rattle.history.proofs.starts_building.Tie as tie
 
 returns : tie.Need-returns
-unfolding startsBuilding openEmptied withBlocks keptOf
+unfolding startsBuilding replaced withBlocks
 returns c sums building backup =
-    ap (λ (h : History). refilled (h .kept) true [] (h .openSum) (h .openCount) h) (c .open-emptied .ensures sums building backup)
+    ap (λ (h : History). refilled (h .kept) true (h .building) (h .openSum) (h .openCount) h) (c .replaced .ensures sums sums building backup)
 
 pub starts-building-spec : {M : Type 1} → statement M
 starts-building-spec = tie.close (tie.spec (search needs) returns)
