@@ -1,17 +1,17 @@
 -- The traps of document 01 and the cheap programs of "Every result is settled", avoided, and a few more wrong
--- rules: for each a small case in which the rules give something else.
+-- rules, those of request #102 among them: for each a small case in which the rules give something else.
 use Prim.Native.Nat.{ℕ}
 use mathlib.Core.Bool.{Bool, true, false}
 use mathlib.Core.List.{List, [], _∷_}
 use lib.IntN.{pos, negsuc}
-use lib.ListN.{replicate}
+use lib.ListN.{length, replicate}
 use Rattle.rules.specs.Words.{if_then_else_}
 use Rattle.rules.specs.Events.{tick, hit, write}
 use Rattle.rules.specs.Monitors.{Input, measured, fullSoak}
 use Rattle.rules.specs.Pll.{holdover, preLocked}
 use Rattle.rules.specs.Settings.{Settings}
 use Rattle.rules.specs.Selection.{Inputs, Choice, settled, chosen, waitAfter, switches}
-use Rattle.rules.specs.History.{ready, replaced, value, freshHistory}
+use Rattle.rules.specs.History.{History, ready, withBlocks, completed, noted, value, replaced, commanded, freshHistory}
 use Rattle.rules.specs.State.{State, selected}
 use Rattle.rules.specs.Tick.{holdingAfter}
 use Rattle.rules.specs.Registers.{written, fresh}
@@ -58,6 +58,10 @@ inHoldover n =
       holding = n;
     }
 
+-- so many blocks in use, with a mean of 0, and so many building, with a mean of 1; the last reference is none
+abbrev blocks : ℕ → ℕ → History
+blocks kept building = withBlocks (replicate kept (pos 0)) true (replicate building (pos 128)) freshHistory
+
 -- ---- the table
 
 unfoldable pub table : List Row
@@ -99,6 +103,23 @@ table =
     -- "one that says "not Ready" forever", or ""Ready" from the start"
     ∷ ready (replaced (replicate 43 (pos 0)) freshHistory) is true
     ∷ ready (replaced (replicate 42 (pos 0)) freshHistory) is false
+    -- Ready and value lost at a switch; a switch under policy 1 that starts building; a further switch that keeps what is built
+    ∷ ready (noted 0 2 (replaced (replicate 43 (pos 0)) freshHistory)) is true
+    ∷ noted 0 2 freshHistory .builds is true
+    ∷ noted 1 2 freshHistory .builds is false
+    ∷ length (noted 0 2 (blocks 43 42) .building) is 0
+    ∷ length (noted 1 2 (blocks 43 42) .building) is 42
+    -- 42 building blocks that replace those in use, and 43 that do not; one that goes on building then
+    ∷ value (completed (pos 128) (blocks 64 41)) is pos 0
+    ∷ value (completed (pos 128) (blocks 64 42)) is pos 1
+    ∷ completed (pos 128) (blocks 64 42) .builds is false
+    -- command 1 that saves the building blocks; 2 and 3 that leave them, or end building
+    ∷ length (commanded 1 (blocks 43 42) .backup) is 43
+    ∷ length (commanded 2 (blocks 43 42) .building) is 0
+    ∷ length (commanded 3 (blocks 43 42) .building) is 0
+    ∷ length (commanded 3 (blocks 43 42) .kept) is 0
+    ∷ commanded 2 (blocks 43 42) .builds is true
+    ∷ commanded 3 (blocks 43 42) .builds is true
     -- "one with an invented 0x4e": 2 is masked
     ∷ read (unit (written 0x42 0b11111101 (fresh .settings)) (clocks true true true)) 0x4e .byte is 2
     -- "or hour count": the entering tick does not count, and an hour has 28,125
