@@ -1,14 +1,15 @@
 //! The same controller written for speed, to be measured beside the real one:
-//! the inputs in arrays that a tick goes through in one loop, the kept sums in
-//! a ring, sheets run in place with nothing allocated. The rules are those of
+//! the inputs in arrays that a tick goes through in one loop, the block sums in
+//! rings, sheets run in place with nothing allocated. The rules are those of
 //! the plain model, which tells them; its answers must be the same.
 
 mod pages;
 
 pub use pages::print;
 
+use crate::blocks::{BLOCKS_KEPT, SAMPLES_PER_BLOCK};
 use crate::event::Event;
-use crate::history::{BLOCKS_FOR_READY, BLOCKS_KEPT, SAMPLES_PER_BLOCK};
+use crate::history_rules::BLOCKS_FOR_READY;
 use crate::monitors::{LOCK_ALARM_TICKS, SOAK_TICKS};
 use crate::pll::{Pll, State, UNLOCK_TICKS};
 use crate::refusal::Refusal;
@@ -139,12 +140,18 @@ impl Blocks {
     }
 }
 
-/// The holdover history.
+/// The holdover history. Block sums are touched only where a block completes
+/// and where commands copy them.
 #[derive(Clone, Copy, Debug, PartialEq, Eq)]
 pub struct History {
     pub open_sum: i64,
     pub open_samples: u32,
-    pub blocks: Blocks,
+    /// Whether a history builds.
+    builds: bool,
+    /// The blocks in use.
+    pub kept: Blocks,
+    /// The building history's, while one builds.
+    building: Blocks,
     pub backup: Option<Blocks>,
     pub last_reference: Option<u8>,
 }
@@ -154,14 +161,21 @@ impl History {
         History {
             open_sum: 0,
             open_samples: 0,
-            blocks: Blocks::EMPTY,
+            builds: false,
+            kept: Blocks::EMPTY,
+            building: Blocks::EMPTY,
             backup: None,
             last_reference: None,
         }
     }
 
+    /// The building history's blocks; none while nothing builds.
+    pub fn building(&self) -> Option<&Blocks> {
+        self.builds.then(|| &self.building)
+    }
+
     fn ready(&self) -> bool {
-        self.blocks.count >= BLOCKS_FOR_READY
+        self.kept.count >= BLOCKS_FOR_READY
     }
 
     fn empty_open_block(&mut self) {
@@ -169,8 +183,8 @@ impl History {
         self.open_samples = 0;
     }
 
-    fn empty(&mut self) {
-        self.blocks.count = 0;
+    fn empty_building_and_open_block(&mut self) {
+        self.building.count = 0;
         self.empty_open_block();
     }
 
@@ -182,27 +196,42 @@ impl History {
             if self.open_samples < SAMPLES_PER_BLOCK {
                 return;
             }
-            self.blocks.push(self.open_sum);
+            self.block_completed();
         }
         self.empty_open_block();
     }
 
+    fn block_completed(&mut self) {
+        if !self.builds {
+            return self.kept.push(self.open_sum);
+        }
+        self.building.push(self.open_sum);
+        if self.building.count >= BLOCKS_FOR_READY {
+            self.kept = self.building;
+            self.builds = false;
+        }
+    }
+
     fn reference_selected(&mut self, reference: u8, policy: u8) {
         if policy == 0 && self.last_reference != Some(reference) {
-            self.empty();
+            self.builds = true;
+            self.empty_building_and_open_block();
         }
         self.last_reference = Some(reference);
     }
 
     fn command(&mut self, command: u8) -> Result<(), Refusal> {
         match (command, self.backup) {
-            (1, _) if self.ready() => self.backup = Some(self.blocks),
+            (1, _) if self.ready() => self.backup = Some(self.kept),
             (2, Some(backup)) => {
-                self.blocks = backup;
-                self.empty_open_block();
+                self.kept = backup;
+                self.empty_building_and_open_block();
             }
             (1 | 2, _) => return Err(Refusal::CommandNotPossible),
-            (3, _) => self.empty(),
+            (3, _) => {
+                self.kept.count = 0;
+                self.empty_building_and_open_block();
+            }
             _ => {}
         }
         Ok(())

@@ -1,119 +1,117 @@
-//! The holdover history: the open block, the kept block sums, the backup.
+//! The holdover history: the kept blocks, which are in use, and the building
+//! history, which is to replace them. Sentences in quotation marks are those of
+//! document 02, #102.
 
-use std::collections::VecDeque;
-
-/// "128 samples complete a block (16.384 s)"
-pub const SAMPLES_PER_BLOCK: u32 = 128;
-/// "the latest 64 block sums are kept (1,049 s)"
-pub const BLOCKS_KEPT: usize = 64;
-/// "Ready means 43 blocks or more (701 s)."
-pub const BLOCKS_FOR_READY: usize = 43;
+use crate::blocks::{add_block, Blocks, OpenBlock};
+use crate::history_rules::{HistoryRules, BLOCKS_FOR_READY};
 
 #[derive(Clone, Debug, PartialEq, Eq)]
 pub struct History {
-    pub open_sum: i64,
-    pub open_samples: u32,
-    /// The kept block sums, the oldest in front.
-    pub blocks: VecDeque<i64>,
-    pub backup: Option<VecDeque<i64>>,
+    pub open: OpenBlock,
+    /// The blocks in use.
+    pub kept: Blocks,
+    /// The blocks of the building history; none while nothing builds.
+    pub building: Option<Blocks>,
+    pub backup: Option<Blocks>,
     /// The reference of 1 to 8 selected last; none on a fresh unit.
     pub last_reference: Option<u8>,
 }
 
 impl History {
-    pub fn fresh() -> History {
+    /// The blocks of the history that fills: the building one, or the kept
+    /// blocks while nothing builds.
+    pub fn filling(&self) -> &Blocks {
+        self.building.as_ref().unwrap_or(&self.kept)
+    }
+
+    /// A complete block joins the history that fills. "The kept blocks stay in
+    /// use until the building history has 43 blocks, which then replace them."
+    ///
+    /// Reading: they replace them in the tick that completes block 43. Then
+    /// nothing builds, and the kept blocks go on filling up to 64.
+    fn block_completed(&mut self, sum: i64) {
+        let building = match &mut self.building {
+            Some(building) => building,
+            None => return add_block(&mut self.kept, sum),
+        };
+        add_block(building, sum);
+        if building.len() >= BLOCKS_FOR_READY {
+            self.kept = std::mem::take(building);
+            self.building = None;
+        }
+    }
+
+    /// What commands 2 and 3 have in common: "Either also empties the open
+    /// block, and a history that was building goes on building from nothing."
+    fn start_again(&mut self) {
+        self.empty_open_block();
+        if let Some(building) = &mut self.building {
+            building.clear();
+        }
+    }
+}
+
+impl HistoryRules for History {
+    fn fresh() -> History {
         History {
-            open_sum: 0,
-            open_samples: 0,
-            blocks: VecDeque::new(),
+            open: OpenBlock::EMPTY,
+            kept: Blocks::new(),
+            building: None,
             backup: None,
             last_reference: None,
         }
     }
 
-    pub fn ready(&self) -> bool {
-        self.blocks.len() >= BLOCKS_FOR_READY
+    fn blocks_in_use(&self) -> &Blocks {
+        &self.kept
     }
 
-    /// Step 5. "A tick that ends Locked adds its sample to the open block; a
-    /// tick that ends otherwise empties it. 128 samples complete a block
-    /// (16.384 s); the latest 64 block sums are kept (1,049 s)."
-    pub fn end_of_tick(&mut self, locked: bool, sample: i32) {
-        if !locked {
-            self.empty_open_block();
-            return;
-        }
-        self.open_sum += i64::from(sample);
-        self.open_samples += 1;
-        if self.open_samples == SAMPLES_PER_BLOCK {
-            if self.blocks.len() == BLOCKS_KEPT {
-                self.blocks.pop_front();
-            }
-            self.blocks.push_back(self.open_sum);
-            self.empty_open_block();
+    fn backup(&self) -> Option<&Blocks> {
+        self.backup.as_ref()
+    }
+
+    fn end_of_tick(&mut self, locked: bool, sample: i32) {
+        if let Some(sum) = self.open.end_of_tick(locked, sample) {
+            self.block_completed(sum);
         }
     }
 
-    pub fn empty_open_block(&mut self) {
-        self.open_sum = 0;
-        self.open_samples = 0;
-    }
-
-    pub fn empty_blocks_and_open_block(&mut self) {
-        self.blocks.clear();
-        self.empty_open_block();
-    }
-
-    /// "The value is the greatest whole number not above the mean of the kept
-    /// samples."
+    /// "Where policy 0 emptied the blocks, the switch now starts a second,
+    /// building history, and a further switch to another reference empties it.
+    /// [...] A switch under policy 1 leaves whichever history is filling as it
+    /// is."
     ///
-    /// Reading: the kept samples are those of the kept blocks; the open block
-    /// does not count. None while no block is kept.
-    pub fn value(&self) -> Option<i64> {
-        let samples = i64::from(SAMPLES_PER_BLOCK) * self.blocks.len() as i64;
-        let sum = self.sum_of_kept_blocks();
-        // With a divisor above 0, div_euclid rounds down.
-        (samples > 0).then(|| sum.div_euclid(samples))
-    }
-
-    pub fn sum_of_kept_blocks(&self) -> i64 {
-        self.blocks.iter().sum()
-    }
-
-    /// "With policy 0, selecting a reference other than the one of 1 to 8
-    /// selected last (0 and 9 don't count; fresh: none) empties blocks and
-    /// open block first; with policy 1 it doesn't."
-    pub fn reference_selected(&mut self, reference: u8, policy: u8) {
+    /// Reading: policy 0 emptied the blocks when another reference than the
+    /// last was selected, and at the first selection of all; so these start to
+    /// build. The policy is read here alone.
+    fn reference_selected(&mut self, reference: u8, policy: u8) {
         if policy == 0 && self.last_reference != Some(reference) {
-            self.empty_blocks_and_open_block();
+            self.building = Some(Blocks::new());
+            self.empty_open_block();
         }
         self.last_reference = Some(reference);
     }
 
-    /// "command 1 unless Ready, command 2 without backup" are refused.
-    pub fn command_possible(&self, command: u8) -> bool {
-        match command {
-            1 => self.ready(),
-            2 => self.backup.is_some(),
-            _ => true,
-        }
+    fn empty_open_block(&mut self) {
+        self.open = OpenBlock::EMPTY;
     }
 
-    /// "1 copies the kept blocks to backup, 2 replaces them by the backup and
-    /// empties the open block, 3 empties both, not the backup." "0 does
-    /// nothing else".
-    ///
-    /// Reading: command 3's "both" are the kept blocks and the open block.
-    pub fn command(&mut self, command: u8) {
+    /// "Command 1 saves the blocks in use; 2 replaces those and empties the
+    /// building history; 3 empties both." Document 01: 2 replaces by the
+    /// backup, 3 does not empty that, "0 does nothing else".
+    fn command(&mut self, command: u8) {
         match command {
-            1 => self.backup = Some(self.blocks.clone()),
+            1 => self.backup = Some(self.kept.clone()),
             2 => {
                 if let Some(backup) = &self.backup {
-                    self.blocks = backup.clone();
+                    self.kept = backup.clone();
                 }
-                self.empty_open_block();
+                self.start_again();
             }
-            3 => self.empty_blocks_and_open_block(),
+            3 => {
+                self.kept.clear();
+                self.start_again();
+            }
             _ => {}
         }
     }

@@ -1,14 +1,17 @@
 //! The reference controller of the eight-input timing unit, written plainly
 //! from document 01 and from the requests of document 02. It is compared with
 //! the real controller; it shares no code with it. Sentences in quotation marks
-//! are document 01's, in `pages` document 02's.
+//! are document 01's, in `pages` and `history` document 02's.
 
 #![forbid(unsafe_code)]
 
+mod blocks;
 mod event;
 pub mod fast;
 mod history;
+mod history_rules;
 mod monitors;
+mod old_history;
 mod pages;
 mod pll;
 mod reading;
@@ -18,8 +21,10 @@ mod selection;
 mod sheet;
 mod unit;
 
+pub use blocks::{Blocks, OpenBlock, BLOCKS_KEPT, SAMPLES_PER_BLOCK};
 pub use event::Event;
-pub use history::{History, BLOCKS_FOR_READY, BLOCKS_KEPT, SAMPLES_PER_BLOCK};
+pub use history::History;
+pub use history_rules::{HistoryRules, BLOCKS_FOR_READY};
 pub use monitors::{Input, LOCK_ALARM_TICKS, SOAK_TICKS};
 pub use pages::{pages, pages_of, print, BYTES_PER_PAGE, COLUMNS, LINES_PER_PAGE};
 pub use pll::{Pll, State, LOCK_TICKS, UNLOCK_TICKS};
@@ -31,4 +36,4 @@ pub use sheet::{
     check, printed, records, run, sheet_of, Record, BYTES_PER_COUNT, BYTES_PER_EVENT,
     BYTES_PER_RECORD, BYTES_PER_SETTING, LONGEST_SHEET, MOST_SETTINGS,
 };
-pub use unit::{Unit, SAMPLE_LIMIT};
+pub use unit::{OldUnit, Unit, UnitUnder, SAMPLE_LIMIT};

@@ -2,7 +2,9 @@
 
 use crate::event::Event;
 use crate::history::History;
+use crate::history_rules::HistoryRules;
 use crate::monitors::Input;
+use crate::old_history::OldHistory;
 use crate::pll::{Pll, State, UNLOCK_TICKS};
 use crate::refusal::Refusal;
 use crate::registers::{Register, Settings};
@@ -11,28 +13,36 @@ use crate::selection::{state_after_selection, Candidates, Wait, NONE};
 /// Samples run from −125,000,000 to 125,000,000.
 pub const SAMPLE_LIMIT: i32 = 125_000_000;
 
+/// The unit.
+pub type Unit = UnitUnder<History>;
+
+/// The unit as it was before document 02's #102: the same but for the rules of
+/// the history.
+pub type OldUnit = UnitUnder<OldHistory>;
+
+/// A unit whose history is under these rules.
 #[derive(Clone, Debug, PartialEq, Eq)]
-pub struct Unit {
+pub struct UnitUnder<H> {
     pub inputs: [Input; 8],
     pub pll: Pll,
     pub selected: u8,
     pub wait: Wait,
-    pub history: History,
+    pub history: H,
     /// Ticks in Holdover after the event that entered it.
     pub holdover_ticks: u64,
     pub settings: Settings,
 }
 
-impl Unit {
+impl<H: HistoryRules> UnitUnder<H> {
     /// "Fresh: all counts 0, activity alarms clear, frequency alarms set,
     /// selected 0, Free Run."
-    pub fn fresh() -> Unit {
-        Unit {
+    pub fn fresh() -> UnitUnder<H> {
+        UnitUnder {
             inputs: [Input::fresh(); 8],
             pll: Pll::fresh(),
             selected: NONE,
             wait: Wait::ZERO,
-            history: History::fresh(),
+            history: H::fresh(),
             holdover_ticks: 0,
             settings: Settings::fresh(),
         }
@@ -110,7 +120,7 @@ impl Unit {
     }
 
     /// "Any change of selection zeroes the wait." "Both runs restart at 0 when
-    /// the selection changes." A reference selected may empty the history.
+    /// the selection changes." A reference selected may change the history.
     fn change_selection(&mut self, choice: u8) {
         self.drop_selection();
         self.selected = choice;
@@ -179,7 +189,7 @@ impl Unit {
     }
 
     pub fn backup_held(&self) -> bool {
-        self.history.backup.is_some()
+        self.history.backup().is_some()
     }
 
     pub fn locked(&self) -> bool {

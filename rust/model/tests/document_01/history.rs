@@ -1,7 +1,8 @@
-//! Boundaries of the history: blocks, Ready, value, policy, commands.
+//! Boundaries of the history on one reference: blocks, Ready, value, commands.
+//! What a switch does to it is in document 02's #102.
 
 use crate::bench::*;
-use model::Unit;
+use model::{OpenBlock, Unit};
 
 /// As `with_blocks`, then as many blocks more of one sample each.
 fn with_samples(first_blocks: u32, samples: &[i32]) -> Unit {
@@ -12,27 +13,19 @@ fn with_samples(first_blocks: u32, samples: &[i32]) -> Unit {
     unit
 }
 
+/// The blocks of the history that fills.
 fn blocks(unit: &Unit) -> usize {
-    unit.history.blocks.len()
-}
-
-/// Drops input 1, selects input 2 as a reference newly selected.
-fn select_input_2(unit: &mut Unit) {
-    measure(unit, 2, 0);
-    lock_ticks(unit, 79, 0);
-    write(unit, 0x42, 0xfe);
-    clean_ticks(unit, 1);
-    assert_eq!(unit.selected, 2);
+    unit.history.filling().len()
 }
 
 #[test]
 fn the_tick_that_locks_adds_its_sample() {
     let mut unit = locked();
-    assert_eq!(unit.history.open_samples, 1);
+    assert_eq!(unit.history.open.samples, 1);
     lock_ticks(&mut unit, 126, 0);
-    assert_eq!((unit.history.open_samples, blocks(&unit)), (127, 0));
+    assert_eq!((unit.history.open.samples, blocks(&unit)), (127, 0));
     lock_ticks(&mut unit, 1, 0);
-    assert_eq!((unit.history.open_samples, blocks(&unit)), (0, 1));
+    assert_eq!((unit.history.open.samples, blocks(&unit)), (0, 1));
 }
 
 #[test]
@@ -40,11 +33,11 @@ fn a_tick_that_does_not_end_locked_empties_the_open_block() {
     let mut unit = locked();
     lock_ticks(&mut unit, 126, 5);
     clean_ticks(&mut unit, 1);
-    assert_eq!((unit.history.open_samples, unit.history.open_sum), (0, 0));
+    assert_eq!(unit.history.open, OpenBlock::EMPTY);
     lock_ticks(&mut unit, 16 + 126, 5);
     assert_eq!(blocks(&unit), 0);
     lock_ticks(&mut unit, 1, 5);
-    assert_eq!(unit.history.blocks, [128 * 5]);
+    assert_eq!(*unit.history.filling(), [128 * 5]);
 }
 
 #[test]
@@ -60,11 +53,11 @@ fn ready_comes_with_the_43rd_block() {
 fn the_latest_64_blocks_are_kept() {
     let mut unit = with_samples(1, &[1; 63]);
     assert_eq!(blocks(&unit), 64);
-    assert_eq!(unit.history.blocks[0], 0);
+    assert_eq!(unit.history.kept[0], 0);
     lock_ticks(&mut unit, 128, 2);
     assert_eq!(blocks(&unit), 64);
-    assert_eq!(unit.history.blocks[0], 128);
-    assert_eq!(unit.history.blocks[63], 256);
+    assert_eq!(unit.history.kept[0], 128);
+    assert_eq!(unit.history.kept[63], 256);
 }
 
 #[test]
@@ -104,66 +97,20 @@ fn the_open_block_does_not_count_for_the_value() {
 }
 
 #[test]
-fn policy_0_empties_for_another_reference_and_policy_1_does_not() {
-    for (policy, kept) in [(0, 0), (1, 43)] {
-        let mut unit = with_blocks(43);
-        write(&mut unit, 0x25, policy);
-        measure(&mut unit, 2, 0);
-        clean_ticks(&mut unit, 79);
-        assert_eq!(blocks(&unit), 43);
-        write(&mut unit, 0x42, 0xfe);
-        clean_ticks(&mut unit, 1);
-        assert_eq!((unit.selected, blocks(&unit)), (2, kept));
-    }
-}
-
-/// "0 and 9 don't count": the same reference may come back to its history.
-#[test]
-fn policy_0_keeps_for_the_same_reference_after_none_and_free_run() {
-    let mut unit = with_blocks(43);
-    for free_run in [0x00, 0x18] {
-        write(&mut unit, 0x24, free_run);
-        write(&mut unit, 0x42, 0x00);
-        clean_ticks(&mut unit, 1);
-        assert!(!unit.reference_selected());
-        write(&mut unit, 0x42, 0xff);
-        clean_ticks(&mut unit, 1);
-        assert_eq!((unit.selected, blocks(&unit)), (1, 43));
-    }
-}
-
-/// The reference selected last is remembered under policy 1 too.
-#[test]
-fn policy_0_compares_with_a_reference_selected_under_policy_1() {
-    let mut unit = with_blocks(43);
-    write(&mut unit, 0x25, 1);
-    select_input_2(&mut unit);
-    assert!(unit.ready());
-    write(&mut unit, 0x25, 0);
-    hit(&mut unit);
-    clean_ticks(&mut unit, 79);
-    assert_eq!(unit.selected, 2);
-    assert!(unit.ready());
-    write(&mut unit, 0x42, 0x01);
-    clean_ticks(&mut unit, 1);
-    assert_eq!((unit.selected, blocks(&unit)), (1, 0));
-}
-
-#[test]
 fn command_1_copies_and_command_2_restores() {
     let mut unit = with_samples(1, &[7; 42]);
-    let kept = unit.history.blocks.clone();
+    let kept = unit.history.kept.clone();
     lock_ticks(&mut unit, 5, 9);
     write(&mut unit, 0x26, 1);
     assert_eq!((byte(&unit, 0x26), byte(&unit, 0x49)), (1, 0x0c));
-    assert_eq!(unit.history.open_samples, 5);
+    assert_eq!(unit.history.open.samples, 5);
     lock_ticks(&mut unit, 128 + 123, 9);
     lock_ticks(&mut unit, 20, 9);
     assert_eq!(blocks(&unit), 45);
     write(&mut unit, 0x26, 2);
     assert_eq!((byte(&unit, 0x26), byte(&unit, 0x49)), (2, 0x0c));
-    assert_eq!(unit.history.blocks, kept);
-    assert_eq!(unit.history.open_samples, 0);
+    assert_eq!(unit.history.kept, kept);
+    assert_eq!(unit.history.open.samples, 0);
 }
 
 #[test]
@@ -173,7 +120,7 @@ fn command_3_empties_all_but_the_backup() {
     write(&mut unit, 0x26, 1);
     write(&mut unit, 0x26, 3);
     assert_eq!((byte(&unit, 0x26), byte(&unit, 0x49)), (3, 0x08));
-    assert_eq!((blocks(&unit), unit.history.open_samples), (0, 0));
+    assert_eq!((blocks(&unit), unit.history.open.samples), (0, 0));
     write(&mut unit, 0x26, 2);
     assert_eq!((blocks(&unit), byte(&unit, 0x49)), (43, 0x0c));
 }

@@ -88,7 +88,7 @@ fn h_the_value_is_rounded_down() {
     lock_ticks(&mut unit, 43 * 128 - 1, 0);
     let mut sums = vec![-1];
     sums.extend([0; 42]);
-    assert_eq!(unit.history.blocks, sums);
+    assert_eq!(unit.history.kept, sums);
     assert_eq!(value(&unit), -1);
 }
 

@@ -75,8 +75,8 @@ fn a_hit_zeroes_the_soak_and_asks_ready() {
     lock_ticks(&mut ready, 5, 0);
     hit(&mut ready);
     assert_eq!(byte(&ready, 0x48), 0x10);
-    assert_eq!(ready.history.open_samples, 0);
-    assert_eq!(ready.history.blocks.len(), 43);
+    assert_eq!(ready.history.open.samples, 0);
+    assert_eq!(ready.history.kept.len(), 43);
 }
 
 /// The Hit's rule asks Ready alone; Op_Mode 0 holds from the next tick.

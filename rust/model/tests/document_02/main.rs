@@ -1,4 +1,10 @@
 //! The model against document 02: the sentences of each request, and the
 //! boundaries of each rule.
 
+// Not all of what the tests of document 01 need is needed here.
+#[allow(dead_code)]
+#[path = "../document_01/bench.rs"]
+mod bench;
+mod kept_value;
+mod old_rules;
 mod rack_printout;
