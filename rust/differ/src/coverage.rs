@@ -1,19 +1,24 @@
 //! What the lists have reached: a table of items, each with the condition that
 //! counts an event for it.
 
+mod histories;
+
 use crate::report::never_reached;
 use model::{
-    wait_limit, Event, State, Unit, BLOCKS_KEPT, LOCK_ALARM_TICKS, SAMPLES_PER_BLOCK,
+    wait_limit, Event, OldUnit, State, Unit, BLOCKS_KEPT, LOCK_ALARM_TICKS, SAMPLES_PER_BLOCK,
     TICKS_PER_HOUR,
 };
 
-/// An event with the model's state before and after it.
+/// An event with the model's state before and after it, and what the old rules
+/// of the history made of it.
 pub struct Moment<'a> {
     pub before: &'a Unit,
     /// None if the fields were no event.
     pub event: Option<Event>,
     pub refusal: u8,
     pub after: &'a Unit,
+    pub old: &'a OldUnit,
+    pub old_refusal: u8,
 }
 
 impl Moment<'_> {
@@ -80,7 +85,7 @@ impl Moment<'_> {
     fn block_completed(&self) -> bool {
         self.accepted_tick()
             && self.after.locked()
-            && self.before.history.open_samples == SAMPLES_PER_BLOCK - 1
+            && self.before.history.open.samples == SAMPLES_PER_BLOCK - 1
     }
 
     /// Some input of which this holds, before and after.
@@ -191,8 +196,12 @@ fn conditions() -> Vec<(String, Condition)> {
         |address| format!("accepted writes to {:#04x}", address),
         |m, address| m.accepted_write(address),
     ));
+    list.extend(histories::conditions());
     list.extend(family(
-        SINGLE_CONDITIONS.iter().copied(),
+        SINGLE_CONDITIONS
+            .iter()
+            .chain(histories::CONDITIONS)
+            .copied(),
         |(name, _)| name.to_string(),
         |m, (_, condition)| condition(m),
     ));
@@ -297,28 +306,19 @@ const SINGLE_CONDITIONS: &[(&str, SingleCondition)] = &[
     ("Holdover after Free Run", |m| {
         m.state_changed(State::FreeRun, State::Holdover)
     }),
-    ("blocks dropped by policy 0", |m| {
-        m.another_reference()
-            && !m.before.history.blocks.is_empty()
-            && m.after.history.blocks.is_empty()
-    }),
-    ("blocks kept by policy 1", |m| {
-        m.another_reference() && !m.after.history.blocks.is_empty()
-    }),
     ("64 blocks full and an old one dropped", |m| {
-        m.block_completed() && m.before.history.blocks.len() == BLOCKS_KEPT
+        m.block_completed() && m.before.history.filling().len() == BLOCKS_KEPT
     }),
     ("an old block dropped with a backup held", |m| {
-        m.block_completed() && m.before.history.blocks.len() == BLOCKS_KEPT && m.after.backup_held()
+        let full = m.before.history.filling().len() == BLOCKS_KEPT;
+        m.block_completed() && full && m.after.backup_held()
     }),
     (
         "blocks that give a negative value, the mean not whole",
         |m| {
-            let history = &m.after.history;
-            let samples = i64::from(SAMPLES_PER_BLOCK) * history.blocks.len() as i64;
-            m.block_completed()
-                && m.after.value() < 0
-                && history.sum_of_kept_blocks() % samples != 0
+            let kept = &m.after.history.kept;
+            let samples = i64::from(SAMPLES_PER_BLOCK) * kept.len() as i64;
+            m.block_completed() && m.after.value() < 0 && kept.iter().sum::<i64>() % samples != 0
         },
     ),
     ("manual selection of a masked input", |m| {

@@ -1,4 +1,5 @@
-//! What is told about a difference: where it was found, and both answers.
+//! What is told about a difference: where it was found, and both answers, or
+//! what is not so of Ready.
 
 use crate::fields::Fields;
 use std::fmt;
@@ -19,6 +20,11 @@ pub enum Mismatch {
     Changed {
         name: &'static str,
     },
+    /// Ready does not stand after an event after which it stands under the old
+    /// rules.
+    LessReady,
+    /// Ready ended by something else than command 3.
+    ReadyEnded,
 }
 
 impl fmt::Display for Mismatch {
@@ -38,6 +44,12 @@ impl fmt::Display for Mismatch {
             ),
             Mismatch::Changed { name } => {
                 write!(f, "the refused event changed the state of the {}", name)
+            }
+            Mismatch::LessReady => {
+                write!(f, "the device is not Ready; under the old rules it is")
+            }
+            Mismatch::ReadyEnded => {
+                write!(f, "Ready ended on the device, and not by command 3")
             }
         }
     }

@@ -112,6 +112,8 @@ impl<'a, D: Device> List<'a, D> {
             event: fields.event(),
             refusal,
             after: &self.pair.model,
+            old: &self.pair.old,
+            old_refusal: self.pair.old_refusal,
         });
         Ok(())
     }

@@ -1,20 +1,30 @@
 //! The model and a device side by side, each event and each read given to
-//! both.
+//! both; beside them the unit under the old rules of the history, for what #102
+//! says of Ready.
 
 use crate::device::Device;
 use crate::difference::Mismatch;
 use crate::fields::Fields;
-use model::Unit;
+use model::{Event, OldUnit, Unit};
 use std::ops::RangeInclusive;
 
 /// The two stretches of the register map.
 pub const MAP: [RangeInclusive<u8>; 2] = [0x1c..=0x27, 0x40..=0x4e];
+
+/// The write that is command 3.
+const COMMAND_3: Event = Event::Write {
+    address: 0x26,
+    value: 3,
+};
 
 pub struct Pair<D> {
     pub model: Unit,
     pub model_before: Unit,
     device: D,
     device_before: D,
+    pub old: OldUnit,
+    /// What the old rules answered to the last event.
+    pub old_refusal: u8,
     /// How often each address was read.
     pub reads: [u64; 256],
 }
@@ -27,6 +37,8 @@ impl<D: Device> Pair<D> {
             model_before: Unit::fresh(),
             device: make.fresh(),
             device_before: make.fresh(),
+            old: OldUnit::fresh(),
+            old_refusal: 0,
             reads: [0; 256],
         }
     }
@@ -46,7 +58,24 @@ impl<D: Device> Pair<D> {
             unchanged("model", &self.model_before, &self.model)?;
             unchanged(self.device.name(), &self.device_before, &self.device)?;
         }
+        self.old_refusal = self.old.event_fields(kind, a, b, word);
+        self.compare_ready(fields)?;
         Ok(model)
+    }
+
+    /// "Over the same list from fresh, Ready stands after each event after
+    /// which it stood under the old rules, and once standing it ends only by
+    /// command 3." The device's Ready is compared with that of the old rules.
+    fn compare_ready(&self, fields: Fields) -> Result<(), Mismatch> {
+        let stands = shows_ready(&self.device);
+        if self.old.ready() && !stands {
+            return Err(Mismatch::LessReady);
+        }
+        let ended = shows_ready(&self.device_before) && !stands;
+        if ended && fields.event() != Some(COMMAND_3) {
+            return Err(Mismatch::ReadyEnded);
+        }
+        Ok(())
     }
 
     pub fn read(&mut self, address: u8) -> Result<(), Mismatch> {
@@ -79,6 +108,11 @@ impl<D: Device> Pair<D> {
         }
         Ok(())
     }
+}
+
+/// Bit 2 of 0x49.
+fn shows_ready<D: Device>(device: &D) -> bool {
+    device.read(0x49).1 & 0x04 != 0
 }
 
 fn unchanged<T: PartialEq>(name: &'static str, before: &T, after: &T) -> Result<(), Mismatch> {

@@ -342,6 +342,53 @@ pub fn fill_history<D: Device>(list: &mut List<D>) -> Step {
     list.ticks(count, true)
 }
 
+/// Automatic control and a switch to another reference than the last, as soon
+/// as that is available; under either policy.
+pub fn switch_reference<D: Device>(list: &mut List<D>) -> Step {
+    list.write(0x40, 1)?;
+    list.write(0x24, 0)?;
+    let last = list.unit().history.last_reference.unwrap_or(0);
+    let input = (last + list.random.below(7) as u8) % 8 + 1;
+    make_good(list, input)?;
+    list.ticks(80, true)?;
+    let policy = list.random.pick(&[0, 0, 1]);
+    list.write(0x25, policy)?;
+    list.write(0x42, bit(input))?;
+    list.ticks(1, true)
+}
+
+/// A switch, then blocks up to one of the counts at which something changes,
+/// and something that may concern the building history.
+pub fn switch_and_build<D: Device>(list: &mut List<D>) -> Step {
+    switch_reference(list)?;
+    list.change_samples();
+    let blocks = list.random.pick(&[0, 1, 20, 42, 42, 43, 44, 64, 66]);
+    fill_up_to(list, blocks)?;
+    let more = list.random.pick(&[0, 1, 126, 127]);
+    list.ticks(more, true)?;
+    match list.random.below(6) {
+        0 => hit(list),
+        1 => other_policy(list),
+        2 => drop_the_selected(list),
+        3 | 4 => {
+            history_commands(list)?;
+            list.ticks(128, true)
+        }
+        _ => Ok(()),
+    }
+}
+
+/// Ticks until the history that fills has so many blocks, or more, or until
+/// they do not join it.
+fn fill_up_to<D: Device>(list: &mut List<D>, blocks: usize) -> Step {
+    ticks_until_locked(list)?;
+    let missing = blocks.saturating_sub(list.unit().history.filling().len());
+    for _ in 0..missing {
+        list.ticks(128, true)?;
+    }
+    Ok(())
+}
+
 pub fn history_commands<D: Device>(list: &mut List<D>) -> Step {
     for _ in 0..list.random.between(1, 3) {
         let command = list.random.pick(&[0, 1, 1, 2, 2, 2, 3]);

@@ -9,7 +9,7 @@ type Phase<'a, D> = fn(&mut List<'a, D>) -> Step;
 
 /// The phases with their weights. Each begins in whatever state the one before
 /// it has left.
-fn phases<'a, D: Device>() -> [(u32, Phase<'a, D>); 20] {
+fn phases<'a, D: Device>() -> [(u32, Phase<'a, D>); 21] {
     [
         (10, lock_a_reference),
         (6, any_bytes),
@@ -29,6 +29,7 @@ fn phases<'a, D: Device>() -> [(u32, Phase<'a, D>); 20] {
         (5, activity_bursts),
         (3, fill_history),
         (6, history_commands),
+        (3, switch_reference),
         (4, hit),
         (6, reversion),
     ]
@@ -40,17 +41,19 @@ enum Start {
     Anyhow,
     Bytes,
     Ready,
+    Switches,
     AnHourOfHoldover,
     LongWait,
 }
 
 /// The beginnings with their weights, and how many events at least a list with
 /// this beginning has.
-const STARTS: [(u32, (Start, u64)); 6] = [
+const STARTS: [(u32, (Start, u64)); 7] = [
     (10, (Start::Anyhow, 600)),
     (10, (Start::Anyhow, 4_000)),
     (2, (Start::Bytes, 600)),
     (8, (Start::Ready, 12_000)),
+    (3, (Start::Switches, 40_000)),
     (1, (Start::AnHourOfHoldover, 40_000)),
     (1, (Start::LongWait, 5_000)),
 ];
@@ -68,6 +71,12 @@ pub fn mixed_list<D: Device>(list: &mut List<D>) -> Step {
             }
         }
         Start::Ready => become_ready(list)?,
+        Start::Switches => {
+            become_ready(list)?;
+            while list.sent() < length {
+                switch_and_build(list)?;
+            }
+        }
         Start::AnHourOfHoldover => {
             become_ready(list)?;
             go_to_holdover(list)?;

@@ -4,7 +4,7 @@
 use differ::coverage::Coverage;
 use differ::device::Device;
 use differ::run::{names, run_lists};
-use model::{fast, Event, History, Input, Unit};
+use model::{fast, Blocks, Event, History, Input, OpenBlock, Unit};
 
 const SEED: u64 = 3;
 
@@ -44,17 +44,20 @@ fn as_plain(tuned: &fast::Unit) -> Unit {
         remainder: monitors.remainder[i],
         soak: monitors.soak[i] as u8,
     };
-    let backup = history.backup.as_ref();
+    let blocks = |blocks: &fast::Blocks| -> Blocks { blocks.iter().collect() };
     Unit {
         inputs: [0, 1, 2, 3, 4, 5, 6, 7].map(input),
         pll: tuned.pll,
         selected: tuned.selected,
         wait: tuned.wait,
         history: History {
-            open_sum: history.open_sum,
-            open_samples: history.open_samples,
-            blocks: history.blocks.iter().collect(),
-            backup: backup.map(|blocks| blocks.iter().collect()),
+            open: OpenBlock {
+                sum: history.open_sum,
+                samples: history.open_samples,
+            },
+            kept: blocks(&history.kept),
+            building: history.building().map(blocks),
+            backup: history.backup.as_ref().map(blocks),
             last_reference: history.last_reference,
         },
         holdover_ticks: tuned.holdover_ticks,

@@ -1,8 +1,8 @@
 //! The faults: each alters the answer to an event or to a read, or the state
-//! that an event leaves.
+//! that an event leaves. Those of the history are in `histories`.
 
 use differ::fields::Fields;
-use model::{wait_limit, Event, State, Unit, Wait};
+use model::{wait_limit, Event, HistoryRules, State, Unit, Wait};
 
 pub struct Fault {
     pub name: &'static str,
@@ -18,7 +18,7 @@ pub const NO_FAULT: Fault = Fault {
     needs_long_list: false,
 };
 
-fn right_event(unit: &mut Unit, fields: Fields) -> u8 {
+pub fn right_event(unit: &mut Unit, fields: Fields) -> u8 {
     unit.event_fields(fields.kind, fields.a, fields.b, fields.word)
 }
 
@@ -26,7 +26,7 @@ fn right_read(unit: &Unit, address: u8) -> (u8, u8) {
     unit.read(address)
 }
 
-const fn in_event(name: &'static str, event: fn(&mut Unit, Fields) -> u8) -> Fault {
+pub const fn in_event(name: &'static str, event: fn(&mut Unit, Fields) -> u8) -> Fault {
     Fault {
         name,
         event,
@@ -34,7 +34,7 @@ const fn in_event(name: &'static str, event: fn(&mut Unit, Fields) -> u8) -> Fau
     }
 }
 
-const fn in_read(name: &'static str, read: fn(&Unit, u8) -> (u8, u8)) -> Fault {
+pub const fn in_read(name: &'static str, read: fn(&Unit, u8) -> (u8, u8)) -> Fault {
     Fault {
         name,
         read,
@@ -53,7 +53,7 @@ fn read_but(unit: &Unit, address: u8, wrong: u8, answer: impl Fn(u8) -> u8) -> (
 }
 
 /// Takes the event rightly, then alters the state after an accepted one.
-fn then(unit: &mut Unit, fields: Fields, alter: impl Fn(&Unit, &mut Unit)) -> u8 {
+pub fn then(unit: &mut Unit, fields: Fields, alter: impl Fn(&Unit, &mut Unit)) -> u8 {
     let before = unit.clone();
     let refusal = right_event(unit, fields);
     if refusal == 0 {
@@ -63,7 +63,7 @@ fn then(unit: &mut Unit, fields: Fields, alter: impl Fn(&Unit, &mut Unit)) -> u8
 }
 
 /// As `then`, for ticks alone.
-fn then_after_tick(unit: &mut Unit, fields: Fields, alter: impl Fn(&Unit, &mut Unit)) -> u8 {
+pub fn then_after_tick(unit: &mut Unit, fields: Fields, alter: impl Fn(&Unit, &mut Unit)) -> u8 {
     then(unit, fields, |before, after| {
         if is_tick(fields) {
             alter(before, after)
@@ -72,7 +72,7 @@ fn then_after_tick(unit: &mut Unit, fields: Fields, alter: impl Fn(&Unit, &mut U
 }
 
 /// Takes a tick with other settings, which are put back after it.
-fn tick_with(unit: &mut Unit, fields: Fields, alter: impl Fn(&mut Unit)) -> u8 {
+pub fn tick_with(unit: &mut Unit, fields: Fields, alter: impl Fn(&mut Unit)) -> u8 {
     let settings = unit.settings;
     if is_tick(fields) {
         alter(unit);
@@ -88,7 +88,7 @@ fn is_tick(fields: Fields) -> bool {
     matches!(fields.event(), Some(Event::Tick { .. }))
 }
 
-fn is_command(fields: Fields, value: u8) -> bool {
+pub fn is_command(fields: Fields, value: u8) -> bool {
     let address = 0x26;
     fields.event() == Some(Event::Write { address, value })
 }
@@ -101,24 +101,25 @@ fn set_revertive(unit: &mut Unit, revertive: bool) {
     }
 }
 
-/// The byte of the value, rounded toward zero.
-fn value_toward_zero(unit: &Unit, address: u8) -> (u8, u8) {
-    let samples = 128 * unit.history.blocks.len() as i64;
-    match address {
-        0x4a..=0x4d if unit.ready() => {
-            let value = (unit.history.sum_of_kept_blocks() / samples) as i32;
-            (0, value.to_le_bytes()[usize::from(address - 0x4a)])
-        }
+/// Reads rightly but for the four bytes of the value, if another is given.
+pub fn read_value(unit: &Unit, address: u8, other: Option<i64>) -> (u8, u8) {
+    match (address, other) {
+        (0x4a..=0x4d, Some(value)) => (0, value.to_le_bytes()[usize::from(address - 0x4a)]),
         _ => unit.read(address),
     }
 }
 
+/// The byte of the value, rounded toward zero.
+fn value_toward_zero(unit: &Unit, address: u8) -> (u8, u8) {
+    let kept = &unit.history.kept;
+    let sum: i64 = kept.iter().sum();
+    let value = unit.ready().then(|| sum / (128 * kept.len() as i64));
+    read_value(unit, address, value)
+}
+
 /// The byte of the value, Ready or not.
 fn value_always(unit: &Unit, address: u8) -> (u8, u8) {
-    match (address, unit.history.value()) {
-        (0x4a..=0x4d, Some(value)) => (0, value.to_le_bytes()[usize::from(address - 0x4a)]),
-        _ => unit.read(address),
-    }
+    read_value(unit, address, unit.history.value())
 }
 
 pub static FAULTS: &[Fault] = &[
@@ -346,56 +347,6 @@ pub static FAULTS: &[Fault] = &[
             })
         },
     ),
-    in_event("63 blocks kept", |unit, fields| {
-        then(unit, fields, |_, after| {
-            if after.history.blocks.len() == 64 {
-                after.history.blocks.pop_front();
-            }
-        })
-    }),
-    in_event("policy 0 keeps", |unit, fields| {
-        tick_with(unit, fields, |unit| unit.settings.policy = 1)
-    }),
-    in_event("policy 1 empties", |unit, fields| {
-        tick_with(unit, fields, |unit| unit.settings.policy = 0)
-    }),
-    in_event("policy 0 forgets the last reference", |unit, fields| {
-        then(unit, fields, |_, after| {
-            if !after.reference_selected() {
-                after.history.last_reference = None;
-            }
-        })
-    }),
-    in_event("command 1 without Ready", |unit, fields| {
-        if is_command(fields, 1) && !unit.ready() {
-            unit.settings.command = 1;
-            0
-        } else {
-            right_event(unit, fields)
-        }
-    }),
-    in_event("command 2 keeps the open block", |unit, fields| {
-        then(unit, fields, |before, after| {
-            if is_command(fields, 2) {
-                after.history.open_sum = before.history.open_sum;
-                after.history.open_samples = before.history.open_samples;
-            }
-        })
-    }),
-    in_event("command 3 empties the backup", |unit, fields| {
-        then(unit, fields, |_, after| {
-            if is_command(fields, 3) {
-                after.history.backup = None;
-            }
-        })
-    }),
-    in_event("command 3 changes the state", |unit, fields| {
-        then(unit, fields, |before, after| {
-            if is_command(fields, 3) && before.pll.state == State::Holdover {
-                after.pll.state = State::FreeRun;
-            }
-        })
-    }),
     in_event("upper bits of an input kept", |unit, fields| {
         then(unit, fields, |_, after| match fields.event() {
             Some(Event::Write { address, value }) if (0x1c..=0x23).contains(&address) => {

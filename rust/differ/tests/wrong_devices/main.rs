@@ -2,14 +2,15 @@
 //! are the model with one rule altered from outside.
 
 mod faults;
+mod histories;
 
 use differ::coverage::Coverage;
 use differ::device::Device;
-use differ::difference::Difference;
+use differ::difference::{Difference, Mismatch};
 use differ::fields::Fields;
 use differ::run::{names, run_lists};
 use differ::shrink::Shrink;
-use faults::{Fault, FAULTS};
+use faults::Fault;
 use model::Unit;
 
 /// The model with a fault.
@@ -52,8 +53,12 @@ impl Device for Wrong {
     }
 }
 
+fn all_faults() -> impl Iterator<Item = &'static Fault> {
+    faults::FAULTS.iter().chain(histories::FAULTS)
+}
+
 fn fault(name: &str) -> &'static Fault {
-    let found = FAULTS.iter().find(|fault| fault.name == name);
+    let found = all_faults().find(|fault| fault.name == name);
     found.expect("a fault of this name")
 }
 
@@ -65,7 +70,7 @@ fn difference(fault: &'static Fault, mixed: u32, long: u32) -> Option<Box<Differ
 #[test]
 fn the_differ_finds_each_fault_in_mixed_lists() {
     let mut missed = Vec::new();
-    for fault in FAULTS.iter().filter(|fault| !fault.needs_long_list) {
+    for fault in all_faults().filter(|fault| !fault.needs_long_list) {
         match difference(fault, 2_500, 0) {
             Some(difference) => println!("{}\n{}\n", fault.name, difference),
             None => missed.push(fault.name),
@@ -76,7 +81,7 @@ fn the_differ_finds_each_fault_in_mixed_lists() {
 
 #[test]
 fn the_differ_finds_the_faults_beyond_255_hours() {
-    for fault in FAULTS.iter().filter(|fault| fault.needs_long_list) {
+    for fault in all_faults().filter(|fault| fault.needs_long_list) {
         let difference = difference(fault, 0, 1).expect(fault.name);
         println!("{}\n{}\n", fault.name, difference);
     }
@@ -86,6 +91,18 @@ fn the_differ_finds_the_faults_beyond_255_hours() {
 #[test]
 fn the_differ_finds_nothing_without_a_fault() {
     assert_eq!(difference(&faults::NO_FAULT, 50, 0), None);
+}
+
+/// What #102 says of Ready beside the old rules is asked of the device.
+#[test]
+fn ready_is_compared_with_the_old_rules() {
+    for (name, mismatch) in [
+        ("never Ready", Mismatch::LessReady),
+        ("Ready lost at a switch", Mismatch::ReadyEnded),
+    ] {
+        let difference = difference(fault(name), 100, 0).expect(name);
+        assert_eq!(difference.mismatch, mismatch);
+    }
 }
 
 #[test]
