@@ -1,4 +1,4 @@
-/* Document 01's cases A to J ("Marked trials"), driven by a host in C through the three functions of libhost.a. */
+/* Document 01's cases A to J ("Marked trials") and a case of document 02's #102, driven by a host in C through the three functions of libhost.a. */
 #include "controller.h"
 
 #include <stdio.h>
@@ -49,6 +49,11 @@ static int state_byte(const struct unit *u)
 static int selected(const struct unit *u)
 {
     return state_byte(u) % 16;
+}
+
+static int ready(const struct unit *u)
+{
+    return unit_read(u, 0x49) / 4 % 2;
 }
 
 /* 0x4a to 0x4d, low byte first, two's complement. */
@@ -148,7 +153,7 @@ static void mean_of_43_blocks(void)
     ticks(&u, LOCK_TICKS - 1, 0, 1, 0);
     ticks(&u, 1, 0, 1, -1);
     ticks(&u, (long)READY_BLOCKS * BLOCK_TICKS - 1, 0, 1, 0);
-    expect("H 43 blocks: Ready", unit_read(&u, 0x49) / 4 % 2, 1);
+    expect("H 43 blocks: Ready", ready(&u), 1);
     expect("H sums -1 and 42 times 0: value -1", value(&u), -1);
 }
 
@@ -177,6 +182,24 @@ static void equal_priority(void)
     expect("J revertive, delay 0: input 1 takes over", reversion(0, 1), 0);
 }
 
+/* A switch to input 2 under policy 0, and the loss of that clock before it has a history of its own. */
+static void kept_value(void)
+{
+    struct unit u = tracking(1);
+    ticks(&u, LOCK_TICKS - 1 + (long)READY_BLOCKS * BLOCK_TICKS, 0, 1, 7);
+    measure(&u, 2, 0);
+    clean_ticks(&u, SOAK_TICKS);
+    write_register(&u, 0x42, 2);
+    clean_ticks(&u, 1);
+    expect("#102 input 2 is selected", selected(&u), 2);
+    expect("#102 a history builds", u.history.tally.builds != 0, 1);
+    expect("#102 Ready stands", ready(&u), 1);
+    expect("#102 with the value of input 1", value(&u), 7);
+    write_register(&u, 0x42, 0);
+    clean_ticks(&u, 1);
+    expect("#102 input 2 is lost: Holdover", state_byte(&u), 0x10);
+}
+
 int main(void)
 {
     activity();
@@ -187,6 +210,7 @@ int main(void)
     expect("I delay 1: n = 469", reversion(1, 1000), 469);
     expect("I delay 255: n = 119,532", reversion(255, 200000), 119532);
     equal_priority();
-    printf("cases A to J: %s\n", failures ? "FAILED" : "passed");
+    kept_value();
+    printf("cases A to J and #102: %s\n", failures ? "FAILED" : "passed");
     return failures != 0;
 }

@@ -38,17 +38,24 @@ struct unit_monitors {
 struct unit_tally {
     int64_t open;    /* sum of the open block */
     uint16_t filled; /* samples in the open block */
-    uint16_t count;  /* blocks kept */
-    uint16_t backed; /* blocks in the backup */
+    uint8_t count;   /* blocks in use */
+    uint8_t built;   /* blocks of the building history */
+    uint8_t backed;  /* blocks in the backup */
+    uint8_t builds;  /* not 0 while a history builds */
     uint8_t last;    /* the reference 1 to 8 selected last, 0 for none */
     uint8_t command; /* the last accepted command */
 };
 
-/* The history. What lies after the sums that are in use means nothing. */
+/* The history: the blocks in use, of which Ready, the value and command 1 speak, and beside them, while one builds, the history that is to replace them.
+ * What lies after the sums that are counted means nothing.
+ * Sums are written only where a block completes and by commands 1 and 2. A complete block goes to the front of the history that fills: the building one, or
+ * the sums in use while nothing builds; the 43rd building block copies building to sums. Command 1 copies sums to backup, 2 backup to sums. A switch that
+ * starts building, and what a command empties, change the counts in the tally alone. */
 struct unit_history {
     struct unit_tally tally;
-    int64_t sums[64];   /* the first tally.count: the kept block sums, newest first */
-    int64_t backup[64]; /* the first tally.backed: the backup's */
+    int64_t sums[64];     /* the first tally.count: the block sums in use, newest first */
+    int64_t building[64]; /* the first tally.built: the building history's, newest first */
+    int64_t backup[64];   /* the first tally.backed: the backup's */
 };
 
 /* The selection. */
@@ -77,10 +84,10 @@ struct unit {
 
 CONTROLLER_ASSERT(sizeof(struct unit_monitors) == 96, "size of unit_monitors");
 CONTROLLER_ASSERT(sizeof(struct unit_tally) == 16, "size of unit_tally");
-CONTROLLER_ASSERT(sizeof(struct unit_history) == 1040, "size of unit_history");
+CONTROLLER_ASSERT(sizeof(struct unit_history) == 1552, "size of unit_history");
 CONTROLLER_ASSERT(sizeof(struct unit_choice) == 16, "size of unit_choice");
 CONTROLLER_ASSERT(sizeof(struct unit_loop) == 6, "size of unit_loop");
-CONTROLLER_ASSERT(sizeof(struct unit) == 1192, "size of unit");
+CONTROLLER_ASSERT(sizeof(struct unit) == 1704, "size of unit");
 CONTROLLER_ASSERT(CONTROLLER_ALIGN(struct unit) == 8, "alignment of unit");
 
 CONTROLLER_ASSERT(offsetof(struct unit_monitors, level) == 0, "offset of level");
@@ -92,12 +99,15 @@ CONTROLLER_ASSERT(offsetof(struct unit_monitors, soak) == 80, "offset of soak");
 CONTROLLER_ASSERT(offsetof(struct unit_tally, open) == 0, "offset of open");
 CONTROLLER_ASSERT(offsetof(struct unit_tally, filled) == 8, "offset of filled");
 CONTROLLER_ASSERT(offsetof(struct unit_tally, count) == 10, "offset of count");
+CONTROLLER_ASSERT(offsetof(struct unit_tally, built) == 11, "offset of built");
 CONTROLLER_ASSERT(offsetof(struct unit_tally, backed) == 12, "offset of backed");
+CONTROLLER_ASSERT(offsetof(struct unit_tally, builds) == 13, "offset of builds");
 CONTROLLER_ASSERT(offsetof(struct unit_tally, last) == 14, "offset of last");
 CONTROLLER_ASSERT(offsetof(struct unit_tally, command) == 15, "offset of command");
 CONTROLLER_ASSERT(offsetof(struct unit_history, tally) == 0, "offset of tally");
 CONTROLLER_ASSERT(offsetof(struct unit_history, sums) == 16, "offset of sums");
-CONTROLLER_ASSERT(offsetof(struct unit_history, backup) == 528, "offset of backup");
+CONTROLLER_ASSERT(offsetof(struct unit_history, building) == 528, "offset of building");
+CONTROLLER_ASSERT(offsetof(struct unit_history, backup) == 1040, "offset of backup");
 CONTROLLER_ASSERT(offsetof(struct unit_choice, wait) == 0, "offset of wait");
 CONTROLLER_ASSERT(offsetof(struct unit_choice, selected) == 8, "offset of selected");
 CONTROLLER_ASSERT(offsetof(struct unit_choice, aim) == 9, "offset of aim");
@@ -106,10 +116,10 @@ CONTROLLER_ASSERT(offsetof(struct unit_loop, mode) == 2, "offset of mode");
 CONTROLLER_ASSERT(offsetof(struct unit_loop, lock) == 4, "offset of lock");
 CONTROLLER_ASSERT(offsetof(struct unit, monitors) == 0, "offset of monitors");
 CONTROLLER_ASSERT(offsetof(struct unit, history) == 96, "offset of history");
-CONTROLLER_ASSERT(offsetof(struct unit, choice) == 1136, "offset of choice");
-CONTROLLER_ASSERT(offsetof(struct unit, holding) == 1152, "offset of holding");
-CONTROLLER_ASSERT(offsetof(struct unit, pll) == 1156, "offset of pll");
-CONTROLLER_ASSERT(offsetof(struct unit, regs) == 1162, "offset of regs");
+CONTROLLER_ASSERT(offsetof(struct unit, choice) == 1648, "offset of choice");
+CONTROLLER_ASSERT(offsetof(struct unit, holding) == 1664, "offset of holding");
+CONTROLLER_ASSERT(offsetof(struct unit, pll) == 1668, "offset of pll");
+CONTROLLER_ASSERT(offsetof(struct unit, regs) == 1674, "offset of regs");
 
 /* A fresh unit. */
 struct unit unit_fresh(void);

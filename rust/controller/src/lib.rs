@@ -23,25 +23,30 @@ pub struct Monitors {
     pub soak: [u16; 8],
 }
 
-/// The history's open block and counts.
+/// The history's open block and counts; `builds` is not 0 while a history
+/// builds.
 #[repr(C)]
 #[derive(Clone, Copy, Debug, PartialEq, Eq)]
 pub struct Tally {
     pub open: i64,
     pub filled: u16,
-    pub count: u16,
-    pub backed: u16,
+    pub count: u8,
+    pub built: u8,
+    pub backed: u8,
+    pub builds: u8,
     pub last: u8,
     pub command: u8,
 }
 
-/// The history: the first `count` of the sums are kept, the newest first, and
-/// the first `backed` of the backup's.
+/// The history: the first `count` of the sums are in use, the newest first;
+/// likewise the first `built` of the building history's, and the first `backed`
+/// of the backup's.
 #[repr(C)]
 #[derive(Clone, Copy, Debug, PartialEq, Eq)]
 pub struct History {
     pub tally: Tally,
     pub sums: [i64; 64],
+    pub building: [i64; 64],
     pub backup: [i64; 64],
 }
 
@@ -82,10 +87,10 @@ const fn laid_out<T>(size: usize, align: usize) -> bool {
 const _: () = {
     assert!(laid_out::<Monitors>(96, 2));
     assert!(laid_out::<Tally>(16, 8));
-    assert!(laid_out::<History>(1040, 8));
+    assert!(laid_out::<History>(1552, 8));
     assert!(laid_out::<Choice>(16, 8));
     assert!(laid_out::<Loop>(6, 2));
-    assert!(laid_out::<Unit>(1192, 8));
+    assert!(laid_out::<Unit>(1704, 8));
 };
 
 extern "C" {

@@ -5,6 +5,7 @@
 use differ::coverage::Coverage;
 use differ::device::Device;
 use differ::run::{names, run_lists};
+use model::Blocks;
 
 const SEED: u64 = 2;
 
@@ -53,19 +54,18 @@ impl Inspected {
         })
     }
 
-    /// The block sums are compared by their total, in whatever order they lie.
     fn history_agrees(&self) -> bool {
         let (stored, history) = (&self.controller.history, &self.model.history);
         let tally = &stored.tally;
-        let kept: i64 = stored.sums[..usize::from(tally.count)].iter().sum();
-        let backed: i64 = stored.backup[..usize::from(tally.backed)].iter().sum();
-        let backup = history.backup.clone().unwrap_or_default();
-        tally.open == history.open_sum
-            && u32::from(tally.filled) == history.open_samples
-            && usize::from(tally.count) == history.blocks.len()
-            && kept == history.sum_of_kept_blocks()
-            && usize::from(tally.backed) == backup.len()
-            && backed == backup.iter().sum()
+        let none = Blocks::new();
+        let building = history.building.as_ref();
+        let backup = history.backup.as_ref();
+        tally.open == history.open.sum
+            && u32::from(tally.filled) == history.open.samples
+            && (tally.builds != 0) == building.is_some()
+            && blocks_agree(&stored.sums, tally.count, &history.kept)
+            && blocks_agree(&stored.building, tally.built, building.unwrap_or(&none))
+            && blocks_agree(&stored.backup, tally.backed, backup.unwrap_or(&none))
             && tally.last == history.last_reference.unwrap_or(0)
             && tally.command == self.model.settings.command
     }
@@ -81,6 +81,11 @@ impl Inspected {
             && unit.pll.lock == u16::from(model.pll.lock_run)
             && unit.pll.unlock == model.pll.unlock_run
     }
+}
+
+/// The first sums that are counted, the newest first, are these blocks.
+fn blocks_agree(sums: &[i64; 64], count: u8, blocks: &Blocks) -> bool {
+    sums[..usize::from(count)].iter().eq(blocks.iter().rev())
 }
 
 impl Device for Inspected {

@@ -6,13 +6,17 @@ use controller::{Choice, History, Loop, Monitors, Tally, Unit};
 use differ::coverage::Coverage;
 use differ::device::Device;
 use differ::run::{names, run_lists};
+use shared::random::Random;
+use std::collections::BTreeSet;
 use std::mem::size_of;
 use std::ops::Range;
 
 const SEED: u64 = 4;
 const SIZE: usize = size_of::<Unit>();
+/// How many units of any bytes are tried.
+const ANY_UNITS: u32 = 20_000;
 /// The places of the bytes that are in no field.
-const PADDING: [usize; 9] = [1146, 1147, 1148, 1149, 1150, 1151, 1189, 1190, 1191];
+const PADDING: [usize; 9] = [1658, 1659, 1660, 1661, 1662, 1663, 1701, 1702, 1703];
 
 extern "C" {
     fn unit_event(unit: *mut u8, kind: u8, a: u8, b: u8, word: i32) -> u8;
@@ -36,6 +40,16 @@ impl Held {
         // SAFETY: the bytes are as many as a unit has, and aligned to 8.
         unsafe { held.bytes.as_mut_ptr().cast::<Unit>().write(Unit::fresh()) };
         held.fill_padding();
+        held
+    }
+
+    /// Any bytes, a third of them 0 and a third small: most are a unit that no
+    /// list of events leads to.
+    fn any_unit(random: &mut Random) -> Held {
+        let mut held = Held::fresh_unit();
+        for byte in &mut held.bytes {
+            *byte = random.byte() & random.pick(&[0x00, 0x0f, 0xff]);
+        }
         held
     }
 
@@ -91,13 +105,16 @@ fn places_of_fields(unit: &Unit) -> Vec<Range<usize>> {
     let History {
         tally,
         sums,
+        building,
         backup,
     } = history;
     let Tally {
         open,
         filled,
         count,
+        built,
         backed,
+        builds,
         last,
         command,
     } = tally;
@@ -110,9 +127,11 @@ fn places_of_fields(unit: &Unit) -> Vec<Range<usize>> {
     let mut places = Vec::new();
     let rows = [level, decay, active, frequency, remainder, soak];
     places.extend(rows.map(|row| place(unit, row)));
-    places.extend([sums, backup].map(|sums| place(unit, sums)));
-    let numbers = [filled, count, backed, unlock, mode, lock];
+    places.extend([sums, building, backup].map(|sums| place(unit, sums)));
+    let numbers = [filled, unlock, mode, lock];
     places.extend(numbers.map(|number| place(unit, number)));
+    let counts = [count, built, backed, builds];
+    places.extend(counts.map(|byte| place(unit, byte)));
     places.extend([last, command, selected, aim].map(|byte| place(unit, byte)));
     places.extend([place(unit, wait), place(unit, holding)]);
     places.extend([place(unit, open), place(unit, regs)]);
@@ -150,6 +169,25 @@ fn each_refusal_leaves_the_bytes_of_a_fresh_unit() {
     for (number, (kind, a, b, word)) in REFUSED {
         assert_eq!(held.send(kind, a, b, word), (number, true));
     }
+}
+
+/// The numbers of the refusals of events.
+fn numbers() -> impl Iterator<Item = u8> {
+    (1..=8).chain([12])
+}
+
+#[test]
+fn each_refusal_leaves_the_bytes_of_any_unit() {
+    let mut random = Random::new(SEED);
+    let mut refused = BTreeSet::new();
+    for _ in 0..ANY_UNITS {
+        let mut held = Held::any_unit(&mut random);
+        let (_, (kind, a, b, word)) = random.pick(&REFUSED);
+        let (number, unchanged) = held.send(kind, a, b, word);
+        assert!(number == 0 || unchanged, "{} changes a byte", number);
+        refused.insert(number);
+    }
+    assert!(numbers().all(|number| refused.contains(&number)));
 }
 
 /// In random lists, a refusal that changes a byte is answered by one that there
@@ -190,7 +228,7 @@ fn each_refusal_leaves_the_bytes_in_random_lists() {
     let lists = names(SEED, 150, 0);
     let outcome = run_lists(&Held::fresh_unit(), lists, &mut coverage);
     assert_eq!(outcome.map_err(|found| found.to_string()), Ok(()));
-    for number in (1..=8).chain([12]) {
+    for number in numbers() {
         let name = format!("events refused with {}", number);
         let mut counts = coverage.counts().into_iter();
         assert!(

@@ -8,7 +8,7 @@
 
 use crate::faults::*;
 use differ::fields::Fields;
-use model::{Blocks, Event, HistoryRules, State, Unit, BLOCKS_FOR_READY};
+use model::{Blocks, Event, State, Unit, BLOCKS_FOR_READY};
 
 fn builds(unit: &Unit) -> bool {
     unit.history.building.is_some()
