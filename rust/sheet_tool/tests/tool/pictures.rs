@@ -12,9 +12,10 @@ use sheet_tool::records::run;
 use sheet_tool::sheet::Sheet;
 use sheet_tool::stepped::moments;
 
-const COMMITTED: [&str; 4] = [
+const COMMITTED: [&str; 5] = [
     "all-clocks-lost",
     "first-lock",
+    "kept-value",
     "lock-alarm",
     "reversion-with-delay",
 ];
