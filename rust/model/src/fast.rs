@@ -9,7 +9,7 @@ pub use pages::print;
 
 use crate::blocks::{BLOCKS_KEPT, SAMPLES_PER_BLOCK};
 use crate::event::Event;
-use crate::history_rules::BLOCKS_FOR_READY;
+use crate::history::BLOCKS_FOR_READY;
 use crate::monitors::{LOCK_ALARM_TICKS, SOAK_TICKS};
 use crate::pll::{Pll, State, UNLOCK_TICKS};
 use crate::refusal::Refusal;

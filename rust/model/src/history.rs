@@ -1,105 +1,102 @@
-//! The holdover history: the kept blocks, which are in use, and the building
-//! history, which is to replace them. Sentences in quotation marks are those of
-//! document 02, #102.
+//! The holdover history: the open block, the blocks in use, the backup and the
+//! commands. What a switch does to the blocks is for the rules of a switch:
+//! `building` has those of today, `old_rules` those before document 02's #102.
 
-use crate::blocks::{add_block, Blocks, OpenBlock};
-use crate::history_rules::{HistoryRules, BLOCKS_FOR_READY};
+use crate::blocks::{value_of, Blocks, OpenBlock};
+use crate::building::Building;
 
+/// "Ready means 43 blocks or more (701 s)."
+pub const BLOCKS_FOR_READY: usize = 43;
+
+/// The history of a unit.
+pub type History = HistoryUnder<Building>;
+
+/// What a switch does to the blocks, and what is kept beside them for it.
+pub trait SwitchRules {
+    const FRESH: Self;
+
+    /// Another reference than the last is selected under policy 0.
+    fn switched(&mut self, kept: &mut Blocks);
+
+    /// A block is complete.
+    fn block_completed(&mut self, kept: &mut Blocks, sum: i64);
+
+    /// Command 2 or 3 is done to the blocks in use.
+    fn start_again(&mut self);
+}
+
+/// A history whose switches are under these rules.
 #[derive(Clone, Debug, PartialEq, Eq)]
-pub struct History {
+pub struct HistoryUnder<R> {
     pub open: OpenBlock,
-    /// The blocks in use.
+    /// The blocks in use: Ready, the value and command 1 speak of them.
     pub kept: Blocks,
-    /// The blocks of the building history; none while nothing builds.
-    pub building: Option<Blocks>,
+    /// What the rules of a switch keep: the building history.
+    pub building: R,
     pub backup: Option<Blocks>,
     /// The reference of 1 to 8 selected last; none on a fresh unit.
     pub last_reference: Option<u8>,
 }
 
-impl History {
-    /// The blocks of the history that fills: the building one, or the kept
-    /// blocks while nothing builds.
-    pub fn filling(&self) -> &Blocks {
-        self.building.as_ref().unwrap_or(&self.kept)
-    }
-
-    /// A complete block joins the history that fills. "The kept blocks stay in
-    /// use until the building history has 43 blocks, which then replace them."
-    ///
-    /// Reading: they replace them in the tick that completes block 43. Then
-    /// nothing builds, and the kept blocks go on filling up to 64.
-    fn block_completed(&mut self, sum: i64) {
-        let building = match &mut self.building {
-            Some(building) => building,
-            None => return add_block(&mut self.kept, sum),
-        };
-        add_block(building, sum);
-        if building.len() >= BLOCKS_FOR_READY {
-            self.kept = std::mem::take(building);
-            self.building = None;
-        }
-    }
-
-    /// What commands 2 and 3 have in common: "Either also empties the open
-    /// block, and a history that was building goes on building from nothing."
-    fn start_again(&mut self) {
-        self.empty_open_block();
-        if let Some(building) = &mut self.building {
-            building.clear();
-        }
-    }
-}
-
-impl HistoryRules for History {
-    fn fresh() -> History {
-        History {
+impl<R: SwitchRules> HistoryUnder<R> {
+    pub fn fresh() -> HistoryUnder<R> {
+        HistoryUnder {
             open: OpenBlock::EMPTY,
             kept: Blocks::new(),
-            building: None,
+            building: R::FRESH,
             backup: None,
             last_reference: None,
         }
     }
 
-    fn blocks_in_use(&self) -> &Blocks {
-        &self.kept
+    pub fn ready(&self) -> bool {
+        self.kept.len() >= BLOCKS_FOR_READY
     }
 
-    fn backup(&self) -> Option<&Blocks> {
-        self.backup.as_ref()
+    /// The mean of the samples in use, rounded down; none without a block.
+    pub fn value(&self) -> Option<i64> {
+        value_of(&self.kept)
     }
 
-    fn end_of_tick(&mut self, locked: bool, sample: i32) {
+    /// Step 5 of a tick that ends Locked or not, with its sample.
+    pub fn end_of_tick(&mut self, locked: bool, sample: i32) {
         if let Some(sum) = self.open.end_of_tick(locked, sample) {
-            self.block_completed(sum);
+            self.building.block_completed(&mut self.kept, sum);
         }
     }
 
-    /// "Where policy 0 emptied the blocks, the switch now starts a second,
-    /// building history, and a further switch to another reference empties it.
-    /// [...] A switch under policy 1 leaves whichever history is filling as it
-    /// is."
-    ///
-    /// Reading: policy 0 emptied the blocks when another reference than the
-    /// last was selected, and at the first selection of all; so these start to
-    /// build. The policy is read here alone.
-    fn reference_selected(&mut self, reference: u8, policy: u8) {
+    pub fn empty_open_block(&mut self) {
+        self.open = OpenBlock::EMPTY;
+    }
+
+    /// "With policy 0, selecting a reference other than the one of 1 to 8
+    /// selected last (0 and 9 don't count; fresh: none)": this is the switch
+    /// whose rules differ. The policy is read here alone.
+    pub fn reference_selected(&mut self, reference: u8, policy: u8) {
         if policy == 0 && self.last_reference != Some(reference) {
-            self.building = Some(Blocks::new());
+            self.building.switched(&mut self.kept);
             self.empty_open_block();
         }
         self.last_reference = Some(reference);
     }
 
-    fn empty_open_block(&mut self) {
-        self.open = OpenBlock::EMPTY;
+    /// "command 1 unless Ready, command 2 without backup" are refused.
+    pub fn command_possible(&self, command: u8) -> bool {
+        match command {
+            1 => self.ready(),
+            2 => self.backup.is_some(),
+            _ => true,
+        }
     }
 
-    /// "Command 1 saves the blocks in use; 2 replaces those and empties the
-    /// building history; 3 empties both." Document 01: 2 replaces by the
-    /// backup, 3 does not empty that, "0 does nothing else".
-    fn command(&mut self, command: u8) {
+    /// "1 copies the kept blocks to backup, 2 replaces them by the backup and
+    /// empties the open block, 3 empties both, not the backup." "0 does nothing
+    /// else". In #102's words: "Command 1 saves the blocks in use; 2 replaces
+    /// those [...]; 3 empties both. Either also empties the open block".
+    ///
+    /// Reading: document 01's "both" are the kept blocks and the open block,
+    /// #102's the blocks in use and the building history.
+    pub fn command(&mut self, command: u8) {
         match command {
             1 => self.backup = Some(self.kept.clone()),
             2 => {
@@ -114,5 +111,10 @@ impl HistoryRules for History {
             }
             _ => {}
         }
+    }
+
+    fn start_again(&mut self) {
+        self.building.start_again();
+        self.empty_open_block();
     }
 }

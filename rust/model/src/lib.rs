@@ -1,17 +1,17 @@
 //! The reference controller of the eight-input timing unit, written plainly
 //! from document 01 and from the requests of document 02. It is compared with
 //! the real controller; it shares no code with it. Sentences in quotation marks
-//! are document 01's, in `pages` and `history` document 02's.
+//! are document 01's, in `pages` and `building` document 02's.
 
 #![forbid(unsafe_code)]
 
 mod blocks;
+mod building;
 mod event;
 pub mod fast;
 mod history;
-mod history_rules;
 mod monitors;
-mod old_history;
+mod old_rules;
 mod pages;
 mod pll;
 mod reading;
@@ -23,8 +23,7 @@ mod unit;
 
 pub use blocks::{Blocks, OpenBlock, BLOCKS_KEPT, SAMPLES_PER_BLOCK};
 pub use event::Event;
-pub use history::History;
-pub use history_rules::{HistoryRules, BLOCKS_FOR_READY};
+pub use history::{History, BLOCKS_FOR_READY};
 pub use monitors::{Input, LOCK_ALARM_TICKS, SOAK_TICKS};
 pub use pages::{pages, pages_of, print, BYTES_PER_PAGE, COLUMNS, LINES_PER_PAGE};
 pub use pll::{Pll, State, LOCK_TICKS, UNLOCK_TICKS};

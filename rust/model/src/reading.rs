@@ -1,6 +1,6 @@
 //! What the unit shows: its registers, byte by byte, and what they are made of.
 
-use crate::history_rules::HistoryRules;
+use crate::history::SwitchRules;
 use crate::pll::State;
 use crate::refusal::Refusal;
 use crate::registers::Register;
@@ -10,7 +10,7 @@ use crate::unit::UnitUnder;
 /// "whole hours (28,125 ticks)"
 pub const TICKS_PER_HOUR: u64 = 28_125;
 
-impl<H: HistoryRules> UnitUnder<H> {
+impl<R: SwitchRules> UnitUnder<R> {
     /// Reads an address: (0, its byte), or (1, 0) if it is not in the map.
     pub fn read(&self, address: u8) -> (u8, u8) {
         match Register::at(address) {

@@ -1,10 +1,10 @@
 //! The whole unit: its state, and what each of its events does to it.
 
+use crate::building::Building;
 use crate::event::Event;
-use crate::history::History;
-use crate::history_rules::HistoryRules;
+use crate::history::{HistoryUnder, SwitchRules};
 use crate::monitors::Input;
-use crate::old_history::OldHistory;
+use crate::old_rules::OldRules;
 use crate::pll::{Pll, State, UNLOCK_TICKS};
 use crate::refusal::Refusal;
 use crate::registers::{Register, Settings};
@@ -14,35 +14,35 @@ use crate::selection::{state_after_selection, Candidates, Wait, NONE};
 pub const SAMPLE_LIMIT: i32 = 125_000_000;
 
 /// The unit.
-pub type Unit = UnitUnder<History>;
+pub type Unit = UnitUnder<Building>;
 
-/// The unit as it was before document 02's #102: the same but for the rules of
-/// the history.
-pub type OldUnit = UnitUnder<OldHistory>;
+/// The unit as it was before document 02's #102: the same but for what a switch
+/// does to the history.
+pub type OldUnit = UnitUnder<OldRules>;
 
-/// A unit whose history is under these rules.
+/// A unit whose history is under these rules of a switch.
 #[derive(Clone, Debug, PartialEq, Eq)]
-pub struct UnitUnder<H> {
+pub struct UnitUnder<R> {
     pub inputs: [Input; 8],
     pub pll: Pll,
     pub selected: u8,
     pub wait: Wait,
-    pub history: H,
+    pub history: HistoryUnder<R>,
     /// Ticks in Holdover after the event that entered it.
     pub holdover_ticks: u64,
     pub settings: Settings,
 }
 
-impl<H: HistoryRules> UnitUnder<H> {
+impl<R: SwitchRules> UnitUnder<R> {
     /// "Fresh: all counts 0, activity alarms clear, frequency alarms set,
     /// selected 0, Free Run."
-    pub fn fresh() -> UnitUnder<H> {
+    pub fn fresh() -> UnitUnder<R> {
         UnitUnder {
             inputs: [Input::fresh(); 8],
             pll: Pll::fresh(),
             selected: NONE,
             wait: Wait::ZERO,
-            history: H::fresh(),
+            history: HistoryUnder::fresh(),
             holdover_ticks: 0,
             settings: Settings::fresh(),
         }
@@ -189,7 +189,7 @@ impl<H: HistoryRules> UnitUnder<H> {
     }
 
     pub fn backup_held(&self) -> bool {
-        self.history.backup().is_some()
+        self.history.backup.is_some()
     }
 
     pub fn locked(&self) -> bool {

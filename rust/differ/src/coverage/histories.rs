@@ -2,22 +2,10 @@
 //! rules beside today's.
 
 use super::{family, Condition, Moment, SingleCondition};
-use model::{State, Unit, BLOCKS_FOR_READY};
+use model::{State, BLOCKS_FOR_READY};
 
 /// One block less than the building history needs.
 const NEARLY_BUILT: usize = BLOCKS_FOR_READY - 1;
-
-fn builds(unit: &Unit) -> bool {
-    unit.history.building.is_some()
-}
-
-/// The blocks of the building history, 0 while nothing builds.
-fn built(unit: &Unit) -> usize {
-    unit.history
-        .building
-        .as_ref()
-        .map_or(0, |blocks| blocks.len())
-}
 
 impl Moment<'_> {
     /// A tick that selects the first reference of all.
@@ -35,18 +23,20 @@ impl Moment<'_> {
             && self.before.history.last_reference == self.after.history.last_reference
     }
 
-    /// A building history with this many blocks is emptied, and goes on.
-    fn emptied(&self, blocks: usize) -> bool {
-        blocks > 0 && built(self.before) == blocks && self.builds_nothing_yet()
+    /// A switch that starts a building history where there was none.
+    fn building_begun(&self) -> bool {
+        self.another_reference() && !self.before.history.builds() && self.after.history.builds()
     }
 
-    fn builds_nothing_yet(&self) -> bool {
-        builds(self.after) && built(self.after) == 0
+    /// A building history with this many blocks is emptied, and goes on.
+    fn emptied(&self, blocks: usize) -> bool {
+        let after = &self.after.history;
+        blocks > 0 && self.before.history.built() == blocks && after.builds() && after.built() == 0
     }
 
     /// A tick in which the building blocks replace the kept ones.
     fn replaced(&self) -> bool {
-        self.block_completed() && builds(self.before) && !builds(self.after)
+        self.block_completed() && self.before.history.builds() && !self.after.history.builds()
     }
 }
 
@@ -55,17 +45,17 @@ pub fn conditions() -> Vec<(String, Condition)> {
     let mut list = family(
         1..=3,
         |command| format!("history command {} accepted with blocks building", command),
-        |m, command| m.write(0x26, command, 0) && built(m.before) > 0,
+        |m, command| m.write(0x26, command, 0) && m.before.history.built() > 0,
     );
     list.extend(family(
         1..=3,
         |command| format!("history command {} accepted, nothing building", command),
-        |m, command| m.write(0x26, command, 0) && !builds(m.before),
+        |m, command| m.write(0x26, command, 0) && !m.before.history.builds(),
     ));
     list.extend(family(
         0..=1,
         |policy| format!("policy {} written with blocks building", policy),
-        |m, policy| m.write(0x25, policy, 0) && built(m.before) > 0,
+        |m, policy| m.write(0x25, policy, 0) && m.before.history.built() > 0,
     ));
     list.extend(family(
         1..=2,
@@ -78,23 +68,20 @@ pub fn conditions() -> Vec<(String, Condition)> {
 /// The items that are not one of a family.
 pub const CONDITIONS: &[(&str, SingleCondition)] = &[
     ("building begun by the first selection", |m| {
-        m.first_reference() && builds(m.after)
+        m.first_reference() && m.after.history.builds()
     }),
     ("first selection under policy 1, nothing building", |m| {
-        m.first_reference() && !builds(m.after)
+        m.first_reference() && !m.after.history.builds()
     }),
-    ("building begun by a switch while Ready", |m| {
-        m.another_reference() && !builds(m.before) && builds(m.after) && m.after.ready()
+    ("building begun by a switch, Ready", |m| {
+        m.building_begun() && m.after.ready()
     }),
     (
-        "building begun by a switch, blocks kept but not Ready",
-        |m| {
-            let few = !m.after.history.kept.is_empty() && !m.after.ready();
-            m.another_reference() && !builds(m.before) && builds(m.after) && few
-        },
+        "building begun by a switch, blocks in use, not Ready",
+        |m| m.building_begun() && !m.after.history.kept.is_empty() && !m.after.ready(),
     ),
     ("building history emptied by a further switch", |m| {
-        m.another_reference() && m.emptied(built(m.before))
+        m.another_reference() && m.emptied(m.before.history.built())
     }),
     ("building history of 42 blocks emptied by a switch", |m| {
         m.another_reference() && m.emptied(NEARLY_BUILT)
@@ -103,13 +90,13 @@ pub const CONDITIONS: &[(&str, SingleCondition)] = &[
         m.accepted_write(0x26) && m.emptied(NEARLY_BUILT)
     }),
     ("building history left by a switch under policy 1", |m| {
-        m.another_reference() && built(m.after) > 0
+        m.another_reference() && m.after.history.built() > 0
     }),
     ("kept blocks left filling by a switch under policy 1", |m| {
-        m.another_reference() && !builds(m.after) && !m.after.history.kept.is_empty()
+        m.another_reference() && !m.after.history.builds() && !m.after.history.kept.is_empty()
     }),
     ("same reference selected again with blocks building", |m| {
-        m.same_reference() && built(m.after) > 0
+        m.same_reference() && m.after.history.built() > 0
     }),
     ("block 43 makes Ready", |m| {
         m.replaced() && !m.before.ready()
@@ -117,17 +104,21 @@ pub const CONDITIONS: &[(&str, SingleCondition)] = &[
     ("block 43 replaces blocks that were Ready", |m| {
         m.replaced() && m.before.ready()
     }),
-    ("block 44 joins those that have replaced", |m| {
-        m.block_completed() && !builds(m.before) && m.before.history.kept.len() == BLOCKS_FOR_READY
+    ("block 44 joins those in use, nothing building", |m| {
+        m.block_completed()
+            && !m.before.history.builds()
+            && m.before.history.kept.len() == BLOCKS_FOR_READY
     }),
     ("Hit accepted with blocks building", |m| {
-        m.accepted_hit() && built(m.before) > 0
+        m.accepted_hit() && m.before.history.built() > 0
     }),
     ("command 1 refused with blocks building", |m| {
-        m.write(0x26, 1, 8) && built(m.before) > 0
+        m.write(0x26, 1, 8) && m.before.history.built() > 0
     }),
     ("Holdover while a history builds", |m| {
-        m.before.reference_selected() && m.after.pll.state == State::Holdover && builds(m.after)
+        m.before.reference_selected()
+            && m.after.pll.state == State::Holdover
+            && m.after.history.builds()
     }),
     ("Ready, also under the old rules", |m| {
         m.after.ready() && m.old.ready()

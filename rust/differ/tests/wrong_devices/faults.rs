@@ -2,7 +2,7 @@
 //! that an event leaves. Those of the history are in `histories`.
 
 use differ::fields::Fields;
-use model::{wait_limit, Event, HistoryRules, State, Unit, Wait};
+use model::{wait_limit, Event, State, Unit, Wait};
 
 pub struct Fault {
     pub name: &'static str,

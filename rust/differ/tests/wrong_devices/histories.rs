@@ -10,15 +10,6 @@ use crate::faults::*;
 use differ::fields::Fields;
 use model::{Blocks, Event, State, Unit, BLOCKS_FOR_READY};
 
-fn builds(unit: &Unit) -> bool {
-    unit.history.building.is_some()
-}
-
-/// The blocks of the building history, 0 while nothing builds.
-fn built(unit: &Unit) -> usize {
-    unit.history.building.as_ref().map_or(0, Blocks::len)
-}
-
 /// As `then`, for one command alone.
 fn then_after_command(
     unit: &mut Unit,
@@ -45,7 +36,7 @@ fn then_after_switch(unit: &mut Unit, fields: Fields, alter: impl Fn(&Unit, &mut
 /// As `then`, for ticks alone in which building blocks replace the kept ones.
 fn then_after_replacing(unit: &mut Unit, fields: Fields, alter: impl Fn(&Unit, &mut Unit)) -> u8 {
     then_after_tick(unit, fields, |before, after| {
-        if builds(before) && !builds(after) {
+        if before.history.builds() && !after.history.builds() {
             alter(before, after)
         }
     })
@@ -111,7 +102,7 @@ pub static FAULTS: &[Fault] = &[
         "a further switch keeps the building blocks",
         |unit, fields| {
             then_after_switch(unit, fields, |before, after| {
-                if builds(before) && builds(after) {
+                if before.history.builds() && after.history.builds() {
                     keep_building_blocks(before, after);
                 }
             })
@@ -126,7 +117,7 @@ pub static FAULTS: &[Fault] = &[
     }),
     in_event("replaced at 42 blocks", |unit, fields| {
         then(unit, fields, |_, after| {
-            if built(after) == BLOCKS_FOR_READY - 1 {
+            if after.history.built() == BLOCKS_FOR_READY - 1 {
                 after.history.kept = after.history.building.take().unwrap_or_default();
             }
         })
@@ -153,7 +144,7 @@ pub static FAULTS: &[Fault] = &[
     }),
     in_event("a block joins both histories", |unit, fields| {
         then_after_tick(unit, fields, |before, after| {
-            if built(after) > built(before) {
+            if after.history.built() > before.history.built() {
                 let newest = after.history.filling().back().copied();
                 after.history.kept.extend(newest);
             }
@@ -216,7 +207,7 @@ pub static FAULTS: &[Fault] = &[
     in_event(
         "command 1 refused by the building blocks",
         |unit, fields| {
-            if is_command(fields, 1) && builds(unit) {
+            if is_command(fields, 1) && unit.history.builds() {
                 8
             } else {
                 right_event(unit, fields)
@@ -225,7 +216,7 @@ pub static FAULTS: &[Fault] = &[
     ),
     in_event("command 1 saves the building blocks", |unit, fields| {
         then_after_command(unit, fields, 1, |_, after| {
-            if builds(after) {
+            if after.history.builds() {
                 after.history.backup = after.history.building.clone();
             }
         })
