@@ -171,7 +171,7 @@ impl History {
 
     /// The building history's blocks; none while nothing builds.
     pub fn building(&self) -> Option<&Blocks> {
-        self.builds.then(|| &self.building)
+        self.builds.then_some(&self.building)
     }
 
     fn ready(&self) -> bool {
