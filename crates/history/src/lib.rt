@@ -127,7 +127,7 @@ pub fn open_emptied(t: Tally) -> Tally
 
 // `replaced`: `count` blocks are in use, and the building history and the open block empty.
 fn replaced(count: u8, t: Tally) -> Tally
-    ensures { λ r. ⌜ ((old sums building backup : List ℤ) → historyOf r sums building backup ≡ replaced (keptOf sums count) (historyOf t old building backup)) ⌝ }
+    ensures { λ r. ⌜ ((old was sums building backup : List ℤ) → historyOf r sums building backup ≡ replaced (keptOf sums count) (historyOf t old was backup)) ⌝ }
 {
     let mut next = open_emptied(t);
     next.count = count;
@@ -252,9 +252,15 @@ pub fn recorded(
 // ---- the commands
 
 // `commanded`: 1 copies the blocks in use to backup, 2 replaces them by the backup, 3 empties them; 2 and 3 empty the building history and the open block too;
-// any other is only noted. No command touches the sums of the building history.
-pub fn commanded(c: u8, t: Tally, sums: &mut [i64; 64], backup: &mut [i64; 64]) -> Tally
-    ensures { λ r. ⌜ ((building : List ℤ) → historyOf r (now (sums .exit)) building (now (backup .exit)) ≡ rules.commanded c (historyOf t (now (sums .entry)) building (now (backup .entry)))) ⌝ }
+// any other is only noted.
+pub fn commanded(
+    c: u8,
+    t: Tally,
+    sums: &mut [i64; 64],
+    building: &mut [i64; 64],
+    backup: &mut [i64; 64],
+) -> Tally
+    ensures { λ r. ⌜ historyOf r (now (sums .exit)) (now (building .exit)) (now (backup .exit)) ≡ rules.commanded c (historyOf t (now (sums .entry)) (now (building .entry)) (now (backup .entry))) ⌝ }
 {
     let mut next = t;
     next.command = c;
@@ -267,9 +273,11 @@ pub fn commanded(c: u8, t: Tally, sums: &mut [i64; 64], backup: &mut [i64; 64]) 
     if c == 2 {
         let kept = *backup;
         *sums = kept;
+        *building = [0; 64];
         return replaced(t.backed, next);
     }
     if c == 3 {
+        *building = [0; 64];
         return replaced(0, next);
     }
     next

@@ -43,19 +43,29 @@ fn run_settings(
     regs: &mut [u8; 27],
     keys: &mut [u16; 9],
     sums: &mut [i64; 64],
+    building: &mut [i64; 64],
     backup: &mut [i64; 64],
     out: &mut [u8],
 ) -> Core
     requires { ⌜ (2 * n ≤ length (now part)) × (4 * n ≤ length (now out)) × (now keys ≡ keysFrom (settingsFrom (now regs))) ⌝ }
-    ensures { λ r. ⌜ ((m : stored.Monitors) (building : List ℤ) → stateOf r (withSoak m (now (soak .entry))) (now (regs .exit)) (now (sums .exit)) building (now (backup .exit)) ≡ rules.run (stateOf start (withSoak m (now (soak .entry))) (now (regs .entry)) (now (sums .entry)) building (now (backup .entry))) (settingsOf n (now (part .entry)))) ⌝ }
-    ensures { λ _. ⌜ ((m : stored.Monitors) (building : List ℤ) → now (out .exit) ≡ over (records (stateOf start (withSoak m (now (soak .entry))) (now (regs .entry)) (now (sums .entry)) building (now (backup .entry))) (settingsOf n (now (part .entry)))) (now (out .entry))) ⌝ }
+    ensures { λ r. ⌜ ((m : stored.Monitors) → stateOf r (withSoak m (now (soak .entry))) (now (regs .exit)) (now (sums .exit)) (now (building .exit)) (now (backup .exit)) ≡ rules.run (stateOf start (withSoak m (now (soak .entry))) (now (regs .entry)) (now (sums .entry)) (now (building .entry)) (now (backup .entry))) (settingsOf n (now (part .entry)))) ⌝ }
+    ensures { λ _. ⌜ ((m : stored.Monitors) → now (out .exit) ≡ over (records (stateOf start (withSoak m (now (soak .entry))) (now (regs .entry)) (now (sums .entry)) (now (building .entry)) (now (backup .entry))) (settingsOf n (now (part .entry)))) (now (out .entry))) ⌝ }
     ensures { λ _. ⌜ now (keys .exit) ≡ keysFrom (settingsFrom (now (regs .exit))) ⌝ }
 {
     let mut k = start;
     let mut i = 0;
     while i < n {
         let at = 2 * i;
-        let s = unit::write(part[at], part[at + 1], k, regs, keys, sums, backup);
+        let s = unit::write(
+            part[at],
+            part[at + 1],
+            k,
+            regs,
+            keys,
+            sums,
+            building,
+            backup,
+        );
         places(*sums);
         places(*backup);
         let next = s.core;
@@ -150,6 +160,7 @@ pub fn run_into(sheet: &[u8], out: &mut [u8]) -> usize
         &mut regs,
         &mut keys,
         &mut sums,
+        &mut building,
         &mut backup,
         &mut out[..],
     );

@@ -156,12 +156,13 @@ fn write_accepted(
     t: Tally,
     regs: &mut [u8; 27],
     sums: &mut [i64; 64],
+    building: &mut [i64; 64],
     backup: &mut [i64; 64],
 ) -> Tally
-    ensures { λ r. ⌜ ((k : core.Core) (m : stored.Monitors) (building : List ℤ) → inMap a ≡ true → stateOf (withTally k r) m (now (regs .exit)) (now (sums .exit)) building (now (backup .exit)) ≡ afterWrite a v (stateOf (withTally k t) m (now (regs .entry)) (now (sums .entry)) building (now (backup .entry)))) ⌝ }
+    ensures { λ r. ⌜ ((k : core.Core) (m : stored.Monitors) → inMap a ≡ true → stateOf (withTally k r) m (now (regs .exit)) (now (sums .exit)) (now (building .exit)) (now (backup .exit)) ≡ afterWrite a v (stateOf (withTally k t) m (now (regs .entry)) (now (sums .entry)) (now (building .entry)) (now (backup .entry)))) ⌝ }
 {
     if a == 0x26 {
-        return history::commanded(v, t, sums, backup);
+        return history::commanded(v, t, sums, building, backup);
     }
     writes::written(regs, a, v);
     t
@@ -175,9 +176,10 @@ fn on_write(
     regs: &mut [u8; 27],
     keys: &mut [u16; 9],
     sums: &mut [i64; 64],
+    building: &mut [i64; 64],
     backup: &mut [i64; 64],
 ) -> Stepped
-    ensures { λ r. ⌜ ((m : stored.Monitors) (building : List ℤ) → length (now (sums .entry)) ≡ 64 → length (now (backup .entry)) ≡ 64 → Gives (record { core = k; rows = m; regs = now (regs .entry); sums = now (sums .entry); building = building; backup = now (backup .entry) }) (events.write a v) (r .refusal) (record { core = r .core; rows = m; regs = now (regs .exit); sums = now (sums .exit); building = building; backup = now (backup .exit) })) ⌝ }
+    ensures { λ r. ⌜ ((m : stored.Monitors) → length (now (sums .entry)) ≡ 64 → length (now (backup .entry)) ≡ 64 → Gives (record { core = k; rows = m; regs = now (regs .entry); sums = now (sums .entry); building = now (building .entry); backup = now (backup .entry) }) (events.write a v) (r .refusal) (record { core = r .core; rows = m; regs = now (regs .exit); sums = now (sums .exit); building = now (building .exit); backup = now (backup .exit) })) ⌝ }
     ensures { λ _. ⌜ (now (keys .entry) ≡ keysFrom (settingsFrom (now (regs .entry))) → now (keys .exit) ≡ keysFrom (settingsFrom (now (regs .exit)))) ⌝ }
 {
     let number = writes::write_refusal(
@@ -188,7 +190,7 @@ fn on_write(
         history::holds_backup(k.tally),
     );
     if number == 0 {
-        let t = write_accepted(a, v, k.tally, regs, sums, backup);
+        let t = write_accepted(a, v, k.tally, regs, sums, building, backup);
         let made = candidates::keys_of(regs);
         *keys = made;
         let mut next = k;
@@ -255,7 +257,7 @@ pub fn step(
         Event::Hit => on_hit(k, soak),
         Event::Write(a, v) => {
             let copy = k;
-            let s = on_write(a, v, copy, regs, keys, sums, backup);
+            let s = on_write(a, v, copy, regs, keys, sums, building, backup);
             let next = s.core;
             Stepped {
                 refusal: s.refusal,
@@ -273,14 +275,15 @@ pub fn write(
     regs: &mut [u8; 27],
     keys: &mut [u16; 9],
     sums: &mut [i64; 64],
+    building: &mut [i64; 64],
     backup: &mut [i64; 64],
 ) -> Stepped
-    ensures { λ r. ⌜ ((m : stored.Monitors) (building : List ℤ) → Gives (record { core = k; rows = m; regs = now (regs .entry); sums = now (sums .entry); building = building; backup = now (backup .entry) }) (events.write a v) (r .refusal) (record { core = r .core; rows = m; regs = now (regs .exit); sums = now (sums .exit); building = building; backup = now (backup .exit) })) ⌝ }
+    ensures { λ r. ⌜ ((m : stored.Monitors) → Gives (record { core = k; rows = m; regs = now (regs .entry); sums = now (sums .entry); building = now (building .entry); backup = now (backup .entry) }) (events.write a v) (r .refusal) (record { core = r .core; rows = m; regs = now (regs .exit); sums = now (sums .exit); building = now (building .exit); backup = now (backup .exit) })) ⌝ }
     ensures { λ _. ⌜ (now (keys .entry) ≡ keysFrom (settingsFrom (now (regs .entry))) → now (keys .exit) ≡ keysFrom (settingsFrom (now (regs .exit)))) ⌝ }
 {
     places(*sums);
     places(*backup);
-    on_write(a, v, k, regs, keys, sums, backup)
+    on_write(a, v, k, regs, keys, sums, building, backup)
 }
 
 // ---- the unit

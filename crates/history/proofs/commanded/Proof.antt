@@ -9,26 +9,27 @@ use Rattle.history.proofs.commanded.Tie as tie
 
 returns : tie.Need-returns
 unfolding commanded withCommand backedUp
-returns c building = rw (eq-eqb (c .before .before .args .c) 1 (c .before .if1 .taken))
+returns c = rw (eq-eqb (c .before .before .args .c) 1 (c .before .if1 .taken))
 
 returns-2 : tie.Need-returns-2
 unfolding commanded withCommand replaced withBlocks
-returns-2 c building =
-    let b = c .before .before in
+returns-2 c =
+    let b = c .before .before .before in
     let a = b .before .before .args in
-    rw (ne-eqb (a .c) 1 (b .before .if1 .left), eq-eqb (a .c) 2 (b .if2 .taken)) (c .replaced .ensures (now (a .sums)) (now (a .backup)) building (now (a .backup)))
+    rw (ne-eqb (a .c) 1 (b .before .if1 .left), eq-eqb (a .c) 2 (b .if2 .taken))
+    (c .replaced .ensures (now (a .sums)) (now (a .building)) (now (a .backup)) _ (now (a .backup)))
 
 returns-3 : tie.Need-returns-3
 unfolding commanded withCommand replaced withBlocks keptOf
-returns-3 c building =
-    let b = c .before in
+returns-3 c =
+    let b = c .before .before in
     let a = b .before .before .before .args in
     rw (ne-eqb (a .c) 1 (b .before .before .if1 .left), ne-eqb (a .c) 2 (b .before .if2 .left), eq-eqb (a .c) 3 (b .if3 .taken))
-    (c .replaced2 .ensures (now (a .sums)) (now (a .sums)) building (now (a .backup)))
+    (c .replaced2 .ensures (now (a .sums)) (now (a .building)) (now (a .sums)) _ (now (a .backup)))
 
 returns-4 : tie.Need-returns-4
 unfolding commanded withCommand
-returns-4 c building =
+returns-4 c =
     let a = c .before .before .before .args in
     rw (ne-eqb (a .c) 1 (c .before .before .if1 .left), ne-eqb (a .c) 2 (c .before .if2 .left), ne-eqb (a .c) 3 (c .if3 .left))
 

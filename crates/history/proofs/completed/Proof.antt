@@ -63,7 +63,7 @@ returns c backup =
     let h = before p backup in
     let idle : not (eqb (a .t .builds) 0) ≡ false = ap (λ (n : ℕ). not (eqb n 0)) (tested .if1 .taken) in
     let more = joined p (now (a .sums)) _ (a .t .count) (c .before .one-more .result) (c .before .before .push .ensures) (c .before .one-more .ensures) in
-    c .replaced .ensures (now (a .sums)) _ (now (a .building)) backup ∙ (λ i. withBlocks (more i) (idle i) [] h)
+    c .replaced .ensures (now (a .sums)) (now (a .building)) _ _ backup ∙ (λ i. withBlocks (more i) (idle i) [] h)
     ∙ sym (completed-idle (saturated (a .sum)) h idle)
 
 returns-2 : tie.Need-returns-2
@@ -87,7 +87,7 @@ returns-3 c backup =
     let a = p .before .before .args in
     let h = before p backup in
     let whole = joined p (now (a .building)) _ (a .t .built) (c .before .one-more2 .result) (pushing .push2 .ensures) (c .before .one-more2 .ensures) in
-    ap (λ (g : History). refilled (g .kept) false (g .building) (g .openSum) (g .openCount) g) (c .replaced2 .ensures (now (a .sums)) _ _ backup)
+    ap (λ (g : History). refilled (g .kept) false (g .building) (g .openSum) (g .openCount) g) (c .replaced2 .ensures (now (a .sums)) (now (a .building)) _ _ backup)
     ∙ (λ i. withBlocks (whole i) false [] h)
     ∙ sym (completed-full (saturated (a .sum)) h (some-builds tested) (omega (arith, built-length p)))
 

@@ -9,9 +9,9 @@ use Rattle.history.proofs.replaced.Tie as tie
 
 returns : tie.Need-returns
 unfolding replaced openEmptied withBlocks keptOf
-returns c old sums building backup =
+returns c old was sums building backup =
     ap (λ (h : History). refilled (keptOf sums (c .before .args .count)) (h .builds) [] (h .openSum) (h .openCount) h)
-    (c .open-emptied .ensures old building backup)
+    (c .open-emptied .ensures old was backup)
 
 pub replaced-spec : {M : Type 1} → statement M
 replaced-spec = tie.close (tie.spec (search needs) returns)

@@ -1,10 +1,8 @@
 -- After i settings their records are written, and the rest, run from the state so far, gives the rest of them and the same state. The keys follow the registers.
 use Prim.Native.Nat.{ℕ, _≤_, _-_, _*_, _+_}
 use mathlib.Core.Path.{_≡_, refl, sym, ap, _∙_}
-use mathlib.Core.List.{List, []}
 use native.Mathlib.Nat.{sub-zero}
 use native.Mathlib.Omega.{arith}
-use lib.IntN.{ℤ}
 use lib.ListN.{length, drop, length-drop}
 use denote.Ref.{now}
 use borrow.Author.Needs.{needs}
@@ -22,15 +20,15 @@ use Rattle.run.proofs.run_settings.Statement.{statement}
 use Rattle.run.proofs.run_settings.Tie as tie
 
 abbrev Inv-loop : tie.InvT-loop
-Inv-loop part n soak regs₀ keys₀ sums₀ backup₀ out₀ k₀ i₀ regs keys sums backup out k i =
+Inv-loop part n soak regs₀ keys₀ sums₀ building₀ backup₀ out₀ k₀ i₀ regs keys sums building backup out k i =
     (i ≤ n)
     × (length out ≡ length out₀)
     × (keys ≡ keysFrom (settingsFrom regs))
-    × ((m : Monitors) (building : List ℤ) → Going (records (stateOf k₀ (withSoak m soak) regs₀ sums₀ building backup₀) (settingsOf n part)) out₀ (4 * i) (stateOf k (withSoak m soak) regs sums building backup) (settingsOf (n - i) (drop (2 * i) part)) out)
-    × ((m : Monitors) (building : List ℤ) → run (stateOf k (withSoak m soak) regs sums building backup) (settingsOf (n - i) (drop (2 * i) part)) ≡ run (stateOf k₀ (withSoak m soak) regs₀ sums₀ building backup₀) (settingsOf n part))
+    × ((m : Monitors) → Going (records (stateOf k₀ (withSoak m soak) regs₀ sums₀ building₀ backup₀) (settingsOf n part)) out₀ (4 * i) (stateOf k (withSoak m soak) regs sums building backup) (settingsOf (n - i) (drop (2 * i) part)) out)
+    × ((m : Monitors) → run (stateOf k (withSoak m soak) regs sums building backup) (settingsOf (n - i) (drop (2 * i) part)) ≡ run (stateOf k₀ (withSoak m soak) regs₀ sums₀ building₀ backup₀) (settingsOf n part))
 
 abbrev μ-loop : tie.MeasureT-loop
-μ-loop part n soak regs₀ keys₀ sums₀ backup₀ out₀ k₀ i₀ regs keys sums backup out k i = n - i
+μ-loop part n soak regs₀ keys₀ sums₀ building₀ backup₀ out₀ k₀ i₀ regs keys sums building backup out k i = n - i
 
 loop-holds : tie.Need-loop-holds Inv-loop μ-loop
 loop-holds c =
@@ -39,19 +37,19 @@ loop-holds c =
       search needs,
       refl,
       start .pre .2,
-      (λ m building. rw (sub-zero (a .n)) (going-start (stateOf (a .start) (withSoak m (now (a .soak))) (now (a .regs)) (now (a .sums)) building (now (a .backup))) (settingsOf (a .n) (now (a .part))) (now (a .out)))),
-      (λ m building. ap (λ (k : ℕ). run (stateOf (a .start) (withSoak m (now (a .soak))) (now (a .regs)) (now (a .sums)) building (now (a .backup))) (settingsOf k (now (a .part)))) (sub-zero (a .n))),
+      (λ m. rw (sub-zero (a .n)) (going-start (stateOf (a .start) (withSoak m (now (a .soak))) (now (a .regs)) (now (a .sums)) (now (a .building)) (now (a .backup))) (settingsOf (a .n) (now (a .part))) (now (a .out)))),
+      (λ m. ap (λ (k : ℕ). run (stateOf (a .start) (withSoak m (now (a .soak))) (now (a .regs)) (now (a .sums)) (now (a .building)) (now (a .backup))) (settingsOf k (now (a .part)))) (sub-zero (a .n))),
     )
 
 put-record-requires : tie.Need-put-record-requires Inv-loop μ-loop
 put-record-requires c κs =
-    let in-loop = c .before .before .before .before .before .before .before .before .before .before .before .before .before in
+    let in-loop = c .before .before .before .before .before .before .before .before .before .before .before .before .before .before in
     let at-loop = in-loop .before in
     rw part-all (omega (arith, length-drop (4 * at-loop .loop .i) (at-loop .loop .out), at-loop .loop .inv .1, in-loop .loop-test .taken, at-loop .before .before .before .pre .1))
 
 -- the turn that ends
 abbrev turn : tie.After-slice-known2 Inv-loop μ-loop → tie.In-loop Inv-loop μ-loop
-turn c = c .before .before .before .before .before .before .before .before .before .before .before .before .before .before .before .before
+turn c = c .before .before .before .before .before .before .before .before .before .before .before .before .before .before .before .before .before
 
 add-i : tie.Need-add-i Inv-loop μ-loop
 add-i c =
@@ -65,7 +63,7 @@ loop-again c =
     let second = put .before .before .before in
     let first = second .before .before in
     let stepped = first .before .before in
-    let in-loop = stepped .before .before .before .before .before .before .before in
+    let in-loop = stepped .before .before .before .before .before .before .before .before in
     let at-loop = in-loop .before in
     let a = at-loop .before .before .before .args in
     let l = at-loop .loop in
@@ -75,18 +73,18 @@ loop-again c =
     let told = stepped .write .ensures in
     let row = now (a .soak) in
     let some : Monitors = record { level = row; decay = row; active = row; frequency = row; remainder = row; soak = row } in
-    let going : (m : Monitors) (building : List ℤ) → _ = λ m building.
+    let going : (m : Monitors) → _ = λ m.
     let rows = withSoak m (now (a .soak)) in
-    going-put _ _ (4 * i) (4 * (i + 1)) _ _ _ _ _ _ _ (omega arith) (omega (arith, l .inv .1)) more (told .0 rows building .rules)
-    (put .put-record .ensures rows _ _ building _ (first .places .ensures) (second .places2 .ensures)) (l .inv .3 m building) in (
+    going-put _ _ (4 * i) (4 * (i + 1)) _ _ _ _ _ _ _ (omega arith) (omega (arith, l .inv .1)) more (told .0 rows .rules)
+    (put .put-record .ensures rows _ _ _ _ (first .places .ensures) (second .places2 .ensures)) (l .inv .3 m) in (
       search needs,
-      going some [] .same,
+      going some .same,
       told .1 (l .inv .2),
       going,
-      (λ m building.
+      (λ m.
           let rows = withSoak m (now (a .soak)) in
-          ap (λ (o : rules.Outcome). run (o .state) rest) (told .0 rows building .rules)
-          ∙ sym (ap (run (stateOf (l .k) rows (l .regs) (l .sums) building (l .backup))) more) ∙ l .inv .4 m building),
+          ap (λ (o : rules.Outcome). run (o .state) rest) (told .0 rows .rules)
+          ∙ sym (ap (run (stateOf (l .k) rows (l .regs) (l .sums) (l .building) (l .backup))) more) ∙ l .inv .4 m),
     )
 
 returns : tie.Need-returns Inv-loop μ-loop
@@ -98,8 +96,8 @@ returns c =
     let i = l .i in
     let e : a .n - i ≡ 0 = omega arith in
     let left = ap (λ (k : ℕ). settingsOf k (drop (2 * i) (now (a .part)))) e in (
-      (λ m building. sym (ap (run (stateOf (l .k) (withSoak m (now (a .soak))) (l .regs) (l .sums) building (l .backup))) left) ∙ l .inv .4 m building),
-      ((λ m building. going-done _ _ (4 * i) _ _ _ (omega (arith, l .inv .1)) left (l .inv .3 m building)), l .inv .2),
+      (λ m. sym (ap (run (stateOf (l .k) (withSoak m (now (a .soak))) (l .regs) (l .sums) (l .building) (l .backup))) left) ∙ l .inv .4 m),
+      ((λ m. going-done _ _ (4 * i) _ _ _ (omega (arith, l .inv .1)) left (l .inv .3 m)), l .inv .2),
     )
 
 pub run-settings-spec : {M : Type 1} → statement M

@@ -55,11 +55,11 @@ returns-3 c =
 returns-4 : tie.Need-returns-4
 returns-4 c =
     let w = c .before in
-    let told = w .before .before .before .before .before .before in
+    let told = w .before .before .before .before .before .before .before in
     let second = told .before .before in
     let sized = second .before .before in
     let start = sized .before .before in
-    ((λ keyed. rw (told .e3 .given .1) (w .on-write .ensures .0 (rows start) (now (start .args .building)) (sized .places .ensures) (second .places2 .ensures))), w .on-write .ensures .1)
+    ((λ keyed. rw (told .e3 .given .1) (w .on-write .ensures .0 (rows start) (sized .places .ensures) (second .places2 .ensures))), w .on-write .ensures .1)
 
 pub step-spec : {M : Type 1} → statement M
 step-spec =

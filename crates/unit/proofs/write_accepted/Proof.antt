@@ -14,21 +14,21 @@ use Rattle.unit.proofs.write_accepted.Tie as tie
 
 returns : tie.Need-returns
 unfolding afterWrite
-returns c k m building known =
-    let a = c .before .before .before .before .args in
-    rw (eq-eqb (a .a) 0x26 (c .before .before .before .if1 .taken))
+returns c k m known =
+    let a = c .before .before .before .before .before .args in
+    rw (eq-eqb (a .a) 0x26 (c .before .before .before .before .if1 .taken))
     (λ i. record {
       inputs = inputsOf m;
       settings = settingsFrom (now (a .regs));
       loop = loopOf (k .pll);
       choice = choiceOf (k .choice);
-      history = c .commanded .ensures building i;
+      history = c .commanded .ensures i;
       holding = k .holding;
     })
 
 returns-2 : tie.Need-returns-2
 unfolding afterWrite
-returns-2 c k m building known =
+returns-2 c k m known =
     let a = c .before .before .before .args in
     let set = settingsFrom (now (a .regs)) in
     let settings = c .written .ensures ∙ (λ i. if known i then written (a .a) (a .v) set else set) in
@@ -38,7 +38,7 @@ returns-2 c k m building known =
       settings = settings i;
       loop = loopOf (k .pll);
       choice = choiceOf (k .choice);
-      history = historyOf (a .t) (now (a .sums)) building (now (a .backup));
+      history = historyOf (a .t) (now (a .sums)) (now (a .building)) (now (a .backup));
       holding = k .holding;
     })
 
