@@ -1,2 +1,3 @@
 -- The statements of specs/, proved.
 pub mod Promise
+pub mod KeptValue

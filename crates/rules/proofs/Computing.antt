@@ -15,6 +15,7 @@ use Rattle.rules.specs.Sheet
 use Rattle.rules.specs.Printout
 use Rattle.rules.specs.Pages
 use Rattle.rules.specs.Service
+use Rattle.rules.specs.OldHistory
 
 -- Its value means nothing; what counts is the list under it.
 unfoldable pub computing : ℕ
@@ -45,4 +46,6 @@ unfolding
     Pages.leftIn Pages.rightIn Pages.stateName Pages.recordColumns Pages.pageCount Pages.pageLine Pages.joined Pages.page Pages.pagesOf
     Pages.printCheck Pages.print
     Service.acceptedTicks
+    OldHistory.oldBlocks OldHistory.oldSampled OldHistory.oldNoted OldHistory.oldRecorded OldHistory.oldCommanded OldHistory.oldHistory OldHistory.withHistory
+    OldHistory.oldNext OldHistory.oldRun
 computing = 0
