@@ -48,9 +48,9 @@ struct unit_tally {
 
 /* The history: the blocks in use, of which Ready, the value and command 1 speak, and beside them, while one builds, the history that is to replace them.
  * What lies after the sums that are counted means nothing.
- * Sums are written only where a block completes and by commands 1 and 2. A complete block goes to the front of the history that fills: the building one, or
- * the sums in use while nothing builds; the 43rd building block copies building to sums. Command 1 copies sums to backup, 2 backup to sums. A switch that
- * starts building, and what a command empties, change the counts in the tally alone. */
+ * Sums are written only where a block completes and by commands. A complete block goes to the front of the history that fills: the building one, or the sums
+ * in use while nothing builds; the 43rd building block copies building to sums. Command 1 copies sums to backup, 2 backup to sums; 2 and 3 set building to 0.
+ * A switch that starts building changes the tally alone. */
 struct unit_history {
     struct unit_tally tally;
     int64_t sums[64];     /* the first tally.count: the block sums in use, newest first */
