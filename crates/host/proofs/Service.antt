@@ -14,7 +14,8 @@ use Rattle.rules.specs.Run.{outcome, run}
 use Rattle.rules.specs.Sheet.{Decoded, event, bad}
 use Rattle.rules.proofs.Counts.{least-delay}
 use Rattle.rules.proofs.Promise.{numbers, promise}
-use Rattle.rules.proofs.Comparison.{never-less-ready, ends-by-command-3}
+use Rattle.rules.proofs.Comparison.{never-less-ready}
+use Rattle.rules.proofs.Standing.{ends-by-command-3}
 use Rattle.history.proofs.Kept.{ready-kept}
 use Rattle.unit.specs.Bridge.{modelOf}
 use Rattle.unit.specs.declared.Unit.{Unit as Stored}

@@ -28,6 +28,10 @@ pub mod Refusals
 pub mod Laws
 pub mod Progress
 pub mod Promise
+pub mod Alike
+pub mod Commands
+pub mod Behind
 pub mod Comparison
+pub mod Standing
 pub mod Records
 pub mod PageLaws
