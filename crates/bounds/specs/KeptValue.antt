@@ -1,4 +1,5 @@
--- Request #102, on one history: a clock dies within 12 minutes after a switch, and the unit goes to Holdover, where under the old rules it went to Free Run.
+-- Request #102, on one history: "Operators lose the value at each reference switch and fall to Free Run if the new clock dies within 12 minutes." Under the old
+-- rules this unit goes to Free Run, and now to Holdover.
 use Prim.Native.Nat.{ℕ}
 use mathlib.Core.Path.{_≡_}
 use mathlib.Core.Bool.{Bool, true, false}

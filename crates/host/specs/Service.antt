@@ -67,7 +67,8 @@ ownReady u = leb readyBlocks (u .history .tally .count)
 
 -- ---- demand 2
 
--- After every list of events from a fresh unit its state and each register agree with the rules; "the unit's own selected and Ready equal them".
+-- After every list of events from a fresh unit its state and each register agree with the rules; "the unit's own selected and Ready equal them". #102:
+-- "Agreement with the rules means these rules from now on."
 pub record Agrees (es : List Event) (u : Stored) : Type 0 where
   pub state : modelOf u ≡ run fresh es
   pub selected-is : ownSelected u ≡ selected (run fresh es)

@@ -1,4 +1,4 @@
--- The laws of the rules and the promise of service, proved. Each file proves statements of specs/ or what they need.
+-- The laws of the rules, the promise of service and the comparison of #102, proved. Each file proves statements of specs/ or what they need.
 pub mod Computing
 pub mod Avoided
 pub mod Tests

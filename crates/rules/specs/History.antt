@@ -88,7 +88,7 @@ unfoldable pub saturated : ℤ → ℤ
 saturated (pos n) = pos (min sumLimit n)
 saturated (negsuc n) = negsuc (min (sumLimit - 1) n)
 
--- "whichever history is filling": the building one while one builds, else the one in use
+-- the history that fills: the building one while one builds, else the one in use
 unfoldable pub filling : History → List ℤ
 filling h = if h .builds then h .building else h .kept
 
@@ -141,7 +141,7 @@ value h = shrZ (sumOf (h .kept)) (blockSamples * length (h .kept))
 
 -- ---- the commands
 
--- #102: "Command 1 saves the blocks in use"
+-- the backup is the blocks in use
 unfoldable pub backedUp : History → History
 backedUp h = marked (h .last) (h .command) (h .kept) h
 
@@ -152,7 +152,7 @@ replaced blocks h = withBlocks blocks (h .builds) [] h
 unfoldable pub withCommand : ℕ → History → History
 withCommand c h = marked (h .last) c (h .backup) h
 
--- "Command 1 saves the blocks in use; 2 replaces those and empties the building history; 3 empties both." Document 01: "not the backup"; "0 does nothing else"
+-- #102: "Command 1 saves the blocks in use; 2 replaces those and empties the building history; 3 empties both." Document 01: "not the backup"; "0 does nothing else"
 unfoldable pub commanded : ℕ → History → History
 commanded c h =
     withCommand c

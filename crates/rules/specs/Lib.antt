@@ -1,5 +1,6 @@
--- Document 01 as definitions, in reading order: Events to Printout are its sections or parts of them, over the words of Words. Pages is #101 of document 02.
--- From Table on stand statements about the rules: the traps avoided, the laws, the promise of service, also in the records of a sheet, and the laws of the pages.
+-- The documents as definitions, in reading order: Events to Printout are document 01's sections or parts of them, over the words of Words; History has #102 of
+-- document 02 in it, and Pages is #101. From Table on stand statements about the rules: the traps avoided, the laws, the promise of service, the history's rules
+-- before #102 with the comparison, the promise in the records of a sheet, and the laws of the pages.
 pub mod Words
 pub mod Events
 pub mod Monitors
