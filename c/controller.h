@@ -4,7 +4,7 @@
  *   libprint.a: sheet_print
  *
  * The host owns a unit's state. It makes one with unit_fresh, lends it to unit_event for each event and to unit_read for each read, and writes it by
- * nothing else. A tick is 128 ms. Document 01 says what each event does and what each register shows.
+ * nothing else. A tick is 128 ms. Documents 01 and 02 say what each event does and what each register shows.
  *
  * The interface is the registers, by unit_read, and the records and pages of a run sheet. The fields of struct unit are for the eye: they may change from one version
  * to the next, and what is said of them here holds of a unit that is kept so.

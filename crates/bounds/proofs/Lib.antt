@@ -1,3 +1,2 @@
 -- The statements of specs/, proved.
 pub mod Promise
-pub mod KeptValue

@@ -1,5 +1,5 @@
-// The holdover history: document 01, "History (step 5)", with the building history of request #102. A tick changes the small tally; the sums in use and those
-// that build are touched only when a block completes.
+// The holdover history: document 01, "History (step 5)", with the building history of request #102. A tick changes the small tally, and the sums in use and
+// those that build only when a block completes.
 // Each contract is an equation with a rule of crates/rules/specs/History.antt through specs/Bridge.antt; the rule is named above the function.
 ghost use mathlib.Core.Path.{_≡_};
 ghost use mathlib.Core.List.{List};
@@ -252,7 +252,7 @@ pub fn recorded(
 // ---- the commands
 
 // `commanded`: 1 copies the blocks in use to backup, 2 replaces them by the backup, 3 empties them; 2 and 3 empty the building history and the open block too;
-// any other is only noted.
+// any other is only noted. The count empties the building history; zeros are written over its sums so that they lie in memory at each tick.
 pub fn commanded(
     c: u8,
     t: Tally,

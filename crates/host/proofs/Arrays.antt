@@ -1,4 +1,4 @@
--- A unit that a call was given, or that an outcome holds, has kept sums with their 64 places.
+-- A unit that a call was given, or that an outcome holds, has sums in use with their 64 places.
 use mathlib.Core.Path.{_≡_}
 use mathlib.Core.List.{List}
 use lib.ListN.{length}

@@ -10,7 +10,7 @@ use Rattle.rules.specs.Sheet.{Decoded, event, bad, decodedNumber}
 use Rattle.unit.specs.Bridge.{modelOf}
 use Rattle.unit.specs.declared.Unit as code
 
--- the kept sums have their 64 places
+-- the sums in use have their 64 places
 abbrev pub Places : code.Unit → Type 0
 Places u = length (u .history .sums) ≡ 64
 

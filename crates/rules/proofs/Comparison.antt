@@ -20,7 +20,7 @@ use Rattle.rules.specs.Registers.{freshFrom, fresh}
 use Rattle.rules.specs.Refusals.{commandRefused, refusal, accepted}
 use Rattle.rules.specs.Run.{afterMeasurement, afterHit, afterWrite, effect, next, run}
 use Rattle.rules.specs.Laws.{SoundHistory, Lawful}
-use Rattle.rules.specs.OldHistory.{oldCommanded, oldHistory, withHistory, oldNext, oldRun}
+use Rattle.rules.specs.OldHistory.{oldCommanded, withHistory, oldEffect, oldNext, oldRun}
 use Rattle.rules.specs.Comparison.{NeverLessReady}
 use Rattle.rules.proofs.Tests.{by-test, clash, and-left, and-right}
 use Rattle.rules.proofs.Invariants.{write-allowed, lawful-next, lawful-fresh, invariants}
@@ -58,8 +58,8 @@ module _ (o n : State) (t : Twin o n) (w : SoundHistory (n .history)) where
         alike-at (o .settings) (n .settings) (Ready o) (Ready n) (selected o) (selected n) _ _ _ _ (t .settings-is) (ap (λ (c : Choice). c .selected) (t .choice-is))
         (ap (λ (c : Choice). c .selected) choice-same) twin-ready driven-alike
 
-    twin-tick : (x : ℤ) → Twin (withHistory (oldHistory o (tick mask lock x)) (ticked mask lock x o)) (ticked mask lock x n)
-    unfolding withHistory oldHistory ticked step5 steps1to4
+    twin-tick : (x : ℤ) → Twin (oldEffect o (tick mask lock x)) (ticked mask lock x n)
+    unfolding oldEffect withHistory ticked step5 steps1to4
     twin-tick x =
         record {
           inputs-is = inputs-same;
@@ -72,8 +72,8 @@ module _ (o n : State) (t : Twin o n) (w : SoundHistory (n .history)) where
         }
 
   -- a measurement
-  twin-measured : (i : ℕ) (x : ℤ) → Twin (withHistory (o .history) (afterMeasurement i x o)) (afterMeasurement i x n)
-  unfolding withHistory afterMeasurement
+  twin-measured : (i : ℕ) (x : ℤ) → Twin (afterMeasurement i x o) (afterMeasurement i x n)
+  unfolding afterMeasurement
   twin-measured i x =
       record {
         inputs-is = rw (t .settings-is, t .inputs-is) refl;
@@ -84,8 +84,8 @@ module _ (o n : State) (t : Twin o n) (w : SoundHistory (n .history)) where
       }
 
   -- a Hit
-  twin-hit : Twin (withHistory (openEmptied (o .history)) (afterHit o)) (afterHit n)
-  unfolding withHistory afterHit unselectedLoop
+  twin-hit : Twin (afterHit o) (afterHit n)
+  unfolding afterHit unselectedLoop
   twin-hit =
       record {
         inputs-is = rw (t .choice-is, t .inputs-is) refl;
@@ -97,8 +97,8 @@ module _ (o n : State) (t : Twin o n) (w : SoundHistory (n .history)) where
 
   -- a write that both accept, and a command that the new rules alone accept
   module _ (a v : ℕ) (ok : eqb a 0x26 ≡ true → Allowed v (n .history)) where
-    twin-written : Twin (withHistory (oldHistory o (write a v)) (afterWrite a v o)) (afterWrite a v n)
-    unfolding withHistory oldHistory afterWrite
+    twin-written : Twin (oldEffect o (write a v)) (afterWrite a v n)
+    unfolding oldEffect withHistory effect afterWrite
     twin-written =
         record {
           inputs-is = t .inputs-is;
@@ -140,7 +140,7 @@ module _ (o n : State) (t : Twin o n) (w : SoundHistory (n .history)) where
           (one-or-two (Ready o) (held (o .history .backup)) v (and-right (eqb a 0x26) (commandRefused (Ready o) (held (o .history .backup)) v) z))
 
       go : (x : Bool) → accepted o (write a v) ≡ x → (y : Bool) → accepted n (write a v) ≡ y
-          → Twin (if x then withHistory (oldHistory o (write a v)) (afterWrite a v o) else o) (if y then afterWrite a v n else n)
+          → Twin (if x then oldEffect o (write a v) else o) (if y then afterWrite a v n else n)
       go true e true f = twin-written o n t w a v (allowed n a v w f)
       go false e false f = t
       go true e false f =
@@ -159,7 +159,7 @@ module _ (o n : State) (t : Twin o n) (w : SoundHistory (n .history)) where
   both false false e z = t
 
   twin-next : (e : Event) → Twin (oldNext o e) (next n e)
-  unfolding oldNext next effect refusal oldHistory
+  unfolding oldNext oldEffect next effect refusal
   twin-next (tick mask lock x) = both (accepted n (tick mask lock x)) (accepted n (tick mask lock x)) refl (twin-tick o n t w mask lock x)
   twin-next (measurement i x) = both (accepted n (measurement i x)) (accepted n (measurement i x)) refl (twin-measured o n t w i x)
   twin-next hit = both (accepted o hit) (accepted n hit) (ap (λ (c : Choice). eqb (if isTracked (c .selected) then 0 else 5) 0) (t .choice-is)) (twin-hit o n t w)

@@ -46,6 +46,6 @@ unfolding
     Pages.leftIn Pages.rightIn Pages.stateName Pages.recordColumns Pages.pageCount Pages.pageLine Pages.joined Pages.page Pages.pagesOf
     Pages.printCheck Pages.print
     Service.acceptedTicks
-    OldHistory.oldBlocks OldHistory.oldSampled OldHistory.oldNoted OldHistory.oldRecorded OldHistory.oldCommanded OldHistory.oldHistory OldHistory.withHistory
+    OldHistory.oldBlocks OldHistory.oldSampled OldHistory.oldNoted OldHistory.oldRecorded OldHistory.oldCommanded OldHistory.withHistory OldHistory.oldEffect
     OldHistory.oldNext OldHistory.oldRun
 computing = 0

@@ -11,7 +11,7 @@ use lib.ListN.{length, take, length-take}
 use borrow.Author.Tests.{eqb-true, leb-true, leb-false}
 use Rattle.rules.specs.Events.{sampleLimit}
 use Rattle.rules.specs.Words.{if_then_else_, isCounted}
-use Rattle.rules.specs.History.{History, blockSamples, keptBlocks, readyBlocks, sumLimit, ready, refilled, marked, withBlocks, openEmptied, saturated, filling, completed, sampled, startsBuilding, withLast, noted, recorded, backedUp, replaced, withCommand, commanded}
+use Rattle.rules.specs.History.{History, blockSamples, keptBlocks, readyBlocks, sumLimit, ready, refilled, annotated, withBlocks, openEmptied, saturated, filling, completed, sampled, startsBuilding, withLast, noted, recorded, backedUp, replaced, withCommand, commanded}
 use Rattle.rules.specs.Laws.{Within, SoundBlocks, SoundBuilding, SoundHistory}
 use Rattle.rules.proofs.Tests.{if-case, clash, and-right, not-true}
 use Rattle.rules.proofs.Integers.{natAbs-+, saturated-within}
@@ -46,9 +46,9 @@ module _ (kept : List ℤ) (b : Bool) (building : List ℤ) (h : History) (k : S
   sound-blocks = sound-refilled (pos 0) 0 (omega arith) (omega arith)
 
 -- another last reference, command and backup
-sound-marked : (last c : ℕ) (backup : List ℤ) (h : History) → c ≤ 3 → SoundBlocks backup → (backup ≡ []) ⊎ (readyBlocks ≤ length backup) → SoundHistory h
-    → SoundHistory (marked last c backup h)
-sound-marked last c backup h small b full w =
+sound-annotated : (last c : ℕ) (backup : List ℤ) (h : History) → c ≤ 3 → SoundBlocks backup → (backup ≡ []) ⊎ (readyBlocks ≤ length backup) → SoundHistory h
+    → SoundHistory (annotated last c backup h)
+sound-annotated last c backup h small b full w =
     record {
       kept = w .kept;
       building = w .building;
@@ -114,8 +114,8 @@ sound-noted pol sel h w =
     starts : SoundHistory (withBlocks (h .kept) true [] h)
     starts = sound-blocks (h .kept) true [] h (w .kept) (none-building true) w
 
-    last : (g : History) → SoundHistory g → SoundHistory (marked sel (g .command) (g .backup) g)
-    last g v = sound-marked sel (g .command) (g .backup) g (v .command-le) (v .backup) (v .backup-full) v
+    last : (g : History) → SoundHistory g → SoundHistory (annotated sel (g .command) (g .backup) g)
+    last g v = sound-annotated sel (g .command) (g .backup) g (v .command-le) (v .backup) (v .backup-full) v
 
 pub sound-recorded : (pol sel : ℕ) (ends : Bool) (x : ℤ) (h : History) → natAbs x ≤ sampleLimit → SoundHistory h → SoundHistory (recorded pol sel ends x h)
 unfolding recorded
@@ -129,14 +129,14 @@ unfolding commanded withCommand backedUp replaced ready
 sound-commanded c h l r w =
     command _
     (if-case SoundHistory (eqb c 1)
-    (λ e. sound-marked (h .last) (h .command) (h .kept) h (w .command-le) (w .kept) (inr (leb-true readyBlocks (length (h .kept)) (r (eqb-true c 1 e)))) w)
+    (λ e. sound-annotated (h .last) (h .command) (h .kept) h (w .command-le) (w .kept) (inr (leb-true readyBlocks (length (h .kept)) (r (eqb-true c 1 e)))) w)
     (λ e. if-case SoundHistory (eqb c 2) (λ t. other (h .backup) (w .backup)) (λ t. if-case SoundHistory (eqb c 3) (λ u. other [] no-blocks) (λ u. w))))
   where
     other : (blocks : List ℤ) → SoundBlocks blocks → SoundHistory (withBlocks blocks (h .builds) [] h)
     other blocks b = sound-blocks blocks (h .builds) [] h b (none-building (h .builds)) w
 
-    command : (g : History) → SoundHistory g → SoundHistory (marked (g .last) c (g .backup) g)
-    command g v = sound-marked (g .last) c (g .backup) g l (v .backup) (v .backup-full) v
+    command : (g : History) → SoundHistory g → SoundHistory (annotated (g .last) c (g .backup) g)
+    command g v = sound-annotated (g .last) c (g .backup) g l (v .backup) (v .backup-full) v
 
 -- ---- the reference that the history counts as selected last
 

@@ -1,5 +1,5 @@
 -- Request #102 of document 02: what the building history brings, against the rules before it. Two claims about every list of events from a fresh unit, refused
--- events included; a command may be accepted under the one rules and refused under the other.
+-- events included; a command that these rules accept may be refused under the old ones.
 use mathlib.Core.Path.{_≡_}
 use mathlib.Core.Bool.{true, false}
 use mathlib.Core.List.{List, [], _∷_, _++_}

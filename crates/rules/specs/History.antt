@@ -58,8 +58,8 @@ refilled kept builds building sum count h =
     }
 
 -- the history with another last reference, another command and another backup
-abbrev pub marked : ℕ → ℕ → List ℤ → History → History
-marked last command backup h =
+abbrev pub annotated : ℕ → ℕ → List ℤ → History → History
+annotated last command backup h =
     record {
       kept = h .kept;
       builds = h .builds;
@@ -113,7 +113,7 @@ unfoldable pub startsBuilding : History → History
 startsBuilding h = withBlocks (h .kept) true [] h
 
 unfoldable pub withLast : ℕ → History → History
-withLast c h = marked c (h .command) (h .backup) h
+withLast c h = annotated c (h .command) (h .backup) h
 
 -- Document 01: "With policy 0, selecting a reference other than the one of 1 to 8 selected last (0 and 9 don't count; fresh: none) empties blocks and open
 -- block first; with policy 1 it doesn't." #102: "Where policy 0 emptied the blocks, the switch now starts a second, building history, and a further switch to
@@ -143,14 +143,14 @@ value h = shrZ (sumOf (h .kept)) (blockSamples * length (h .kept))
 
 -- the backup is the blocks in use
 unfoldable pub backedUp : History → History
-backedUp h = marked (h .last) (h .command) (h .kept) h
+backedUp h = annotated (h .last) (h .command) (h .kept) h
 
 -- other blocks in use. #102, of commands 2 and 3: "Either also empties the open block, and a history that was building goes on building from nothing."
 unfoldable pub replaced : List ℤ → History → History
 replaced blocks h = withBlocks blocks (h .builds) [] h
 
 unfoldable pub withCommand : ℕ → History → History
-withCommand c h = marked (h .last) c (h .backup) h
+withCommand c h = annotated (h .last) c (h .backup) h
 
 -- #102: "Command 1 saves the blocks in use; 2 replaces those and empties the building history; 3 empties both." Document 01: "not the backup"; "0 does nothing else"
 unfoldable pub commanded : ℕ → History → History

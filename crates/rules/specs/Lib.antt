@@ -1,6 +1,6 @@
 -- The documents as definitions, in reading order: Events to Printout are document 01's sections or parts of them, over the words of Words; History has #102 of
--- document 02 in it, and Pages is #101. From Table on stand statements about the rules: the traps avoided, the laws, the promise of service, the history's rules
--- before #102 with the comparison, the promise in the records of a sheet, and the laws of the pages.
+-- document 02 in it, and Pages is #101. OldHistory has the history's rules before #102, for the comparison alone. From Table on stand statements about the rules:
+-- the traps avoided, the laws, the promise of service, the comparison, the promise in the records of a sheet, and the laws of the pages.
 pub mod Words
 pub mod Events
 pub mod Monitors
@@ -17,12 +17,12 @@ pub mod Run
 pub mod Sheet
 pub mod Printout
 pub mod Pages
+pub mod OldHistory
 pub mod Table
 pub mod Avoided
 pub mod Laws
 pub mod Preference
 pub mod Service
-pub mod OldHistory
 pub mod Comparison
 pub mod Records
 pub mod PageLaws

@@ -51,23 +51,23 @@ oldCommanded c h =
 
 -- ---- the run of a list
 
--- the history that an accepted event leaves
-unfoldable pub oldHistory : State → Event → History
-oldHistory s (tick mask lock x) =
-    let t = steps1to4 mask lock s in
-    oldRecorded (policy (t .settings)) (selected t) (is locked (mode t)) x (s .history)
-oldHistory s (measurement i offset) = s .history
-oldHistory s hit = openEmptied (s .history)
-oldHistory s (write a v) = if eqb a 0x26 then oldCommanded v (s .history) else s .history
-
 -- the state with another history
 unfoldable pub withHistory : History → State → State
 withHistory h s =
     record { inputs = s .inputs; settings = s .settings; loop = s .loop; choice = s .choice; history = h; holding = s .holding }
 
--- what any event leaves: what the rules have it leave, with the old history; one that is turned down leaves the state as it was
+-- what an accepted event leaves: what the rules have it leave, but for the history after a tick's step 5 and after a command
+unfoldable pub oldEffect : State → Event → State
+oldEffect s (tick mask lock x) =
+    let t = steps1to4 mask lock s in
+    withHistory (oldRecorded (policy (t .settings)) (selected t) (is locked (mode t)) x (t .history)) t
+oldEffect s (measurement i offset) = effect s (measurement i offset)
+oldEffect s hit = effect s hit
+oldEffect s (write a v) = withHistory (if eqb a 0x26 then oldCommanded v (s .history) else s .history) (effect s (write a v))
+
+-- what any event leaves: one that is turned down leaves the state as it was
 unfoldable pub oldNext : State → Event → State
-oldNext s e = if accepted s e then withHistory (oldHistory s e) (effect s e) else s
+oldNext s e = if accepted s e then oldEffect s e else s
 
 unfoldable pub oldRun : State → List Event → State
 oldRun s [] = s

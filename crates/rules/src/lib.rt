@@ -1,1 +1,1 @@
-// The rules of document 01: definitions in specs/, their laws and the promise of service in proofs/. There is no code here.
+// The rules of the documents: definitions in specs/; their laws, the promise of service and the comparison of #102 in proofs/. There is no code here.

@@ -1,5 +1,4 @@
 -- What is stored, as it lies in the arrays that a step is lent: when the call begins, and when it returns. The core goes by value.
-use Prim.Native.Nat.{ℕ}
 use mathlib.Core.List.{List}
 use lib.IntN.{ℤ}
 use denote.Ref.{RefT, now}

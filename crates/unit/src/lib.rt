@@ -13,7 +13,7 @@ ghost use Rattle.rules.specs.Registers.{inMap, settingsFrom};
 ghost use Rattle.rules.specs.Sheet.{signedByte};
 ghost use Rattle.rules.specs.Events as events;
 ghost use Rattle.rules.specs.Events.{sampleLimit};
-ghost use Rattle.rules.specs.Run.{afterWrite, outcome};
+ghost use Rattle.rules.specs.Run.{afterWrite};
 ghost use Rattle.inputs.specs.Bridge as rows;
 ghost use Rattle.inputs.specs.Bridge.{withFrequency, withSoak};
 ghost use Rattle.inputs.specs.declared.Monitors as stored;

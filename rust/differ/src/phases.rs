@@ -378,8 +378,8 @@ pub fn switch_and_build<D: Device>(list: &mut List<D>) -> Step {
     }
 }
 
-/// Ticks until the history that fills has so many blocks, or more, or until
-/// they do not join it.
+/// As many ticks as the blocks take that are missing to so many in the history
+/// that fills, if lock stays.
 fn fill_up_to<D: Device>(list: &mut List<D>, blocks: usize) -> Step {
     ticks_until_locked(list)?;
     let missing = blocks.saturating_sub(list.unit().history.filling().len());

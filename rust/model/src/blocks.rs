@@ -51,8 +51,8 @@ pub(crate) fn add_block(blocks: &mut Blocks, sum: i64) {
 /// "The value is the greatest whole number not above the mean of the kept
 /// samples."
 ///
-/// Reading: the kept samples are those of the kept blocks; the open block does
-/// not count. None while no block is kept.
+/// Reading: the kept samples are those of the blocks in use; the open block and
+/// the building history do not count. None without a block.
 pub(crate) fn value_of(blocks: &Blocks) -> Option<i64> {
     let samples = i64::from(SAMPLES_PER_BLOCK) * blocks.len() as i64;
     // With a divisor above 0, div_euclid rounds down.

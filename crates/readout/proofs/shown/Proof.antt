@@ -25,7 +25,7 @@ whole c f =
     let u = c .before .before .before .before .args .u in
     ap (λ (k : Core). f (stateOf k (u .monitors) (u .regs) (u .history .sums) (u .history .building) (u .history .backup))) (c .core-of .ensures)
 
--- the kept sums and the backup's have their 64 places
+-- the sums in use and the backup's have their 64 places
 places : (c : tie.Start) → (length (c .args .u .history .sums) ≡ 64) × (length (c .args .u .history .backup) ≡ 64)
 places c = (search needs, search needs)
 

@@ -9,7 +9,7 @@ use mir.Syntax.{w64}
 use mir.Val.{toZ, ofZ}
 use Rattle.readout.proofs.value_bits.Tie as tie
 
--- the kept sums have their 64 places
+-- the sums in use have their 64 places
 places : (c : tie.Start) → length (c .args .u .history .sums) ≡ 64
 places c = search needs
 

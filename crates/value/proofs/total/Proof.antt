@@ -1,4 +1,4 @@
--- The loop's invariant: s is the sum of the first i kept sums.
+-- The loop's invariant: s is the sum of the first i sums in use.
 use Prim.Native.Nat.{ℕ, _+_, _-_, _≤_, min}
 use mathlib.Core.Path.{_≡_, refl, ap, sym, _∙_}
 use mathlib.Core.List.{List}

@@ -1,4 +1,4 @@
--- The total and the number of kept blocks are the rule's, so the quotient is.
+-- The total and the number of blocks in use are the rule's, so the quotient is.
 use Prim.Native.Nat.{ℕ, _*_, min}
 use mathlib.Core.Path.{_≡_, ap, sym, _∙_}
 use lib.ListN.{length}
