@@ -2,3 +2,4 @@
 pub mod Trials
 pub mod ExampleSheet
 pub mod ExamplePage
+pub mod KeptValue

@@ -13,7 +13,7 @@ use Rattle.rules.specs.Events.{Event, tick, measurement, hit, write}
 use Rattle.rules.specs.Pll.{alarmDue}
 use Rattle.rules.specs.Settings.{policy}
 use Rattle.rules.specs.Selection.{Choice, chosen, unselectedLoop}
-use Rattle.rules.specs.History.{held, openEmptied, filling, commanded, freshHistory}
+use Rattle.rules.specs.History.{held, filling, commanded, freshHistory}
 use Rattle.rules.specs.State.{State, selected, Ready}
 use Rattle.rules.specs.Tick.{loopAfter, inputsAfter, steps1to4, step5, ticked}
 use Rattle.rules.specs.Registers.{freshFrom, fresh}

@@ -2,23 +2,22 @@
 -- rules, those of request #102 among them: for each a small case in which the rules give something else.
 use Prim.Native.Nat.{ℕ}
 use mathlib.Core.Bool.{Bool, true, false}
-use mathlib.Core.List.{List, [], _∷_, _++_}
+use mathlib.Core.List.{List, [], _∷_}
 use lib.IntN.{pos, negsuc}
 use lib.ListN.{length, replicate}
 use Rattle.rules.specs.Words.{if_then_else_}
-use Rattle.rules.specs.Events.{Event, tick, hit, write}
+use Rattle.rules.specs.Events.{tick, hit, write}
 use Rattle.rules.specs.Monitors.{Input, measured, fullSoak}
-use Rattle.rules.specs.Pll.{freeRun, holdover, preLocked, locked}
+use Rattle.rules.specs.Pll.{holdover, preLocked}
 use Rattle.rules.specs.Settings.{Settings}
 use Rattle.rules.specs.Selection.{Inputs, Choice, settled, chosen, waitAfter, switches}
-use Rattle.rules.specs.History.{History, ready, refilled, withBlocks, completed, withLast, noted, value, replaced, commanded, freshHistory}
-use Rattle.rules.specs.State.{State, selected, mode, Ready}
+use Rattle.rules.specs.History.{History, ready, withBlocks, completed, noted, value, replaced, commanded, freshHistory}
+use Rattle.rules.specs.State.{State, selected}
 use Rattle.rules.specs.Tick.{holdingAfter}
 use Rattle.rules.specs.Registers.{written, fresh}
 use Rattle.rules.specs.Reading.{stateByte, read}
 use Rattle.rules.specs.Refusals.{refusal}
 use Rattle.rules.specs.Run.{next, run}
-use Rattle.rules.specs.OldHistory.{oldRun}
 use Rattle.rules.specs.Sheet.{check}
 use Rattle.rules.specs.Printout.{ascii, decimal, hexadecimal}
 use Rattle.rules.specs.Table.{Row, _is_, Holds}
@@ -62,25 +61,6 @@ inHoldover n =
 -- so many blocks in use, with a mean of 0, and so many building, with a mean of 1; the last reference is none
 abbrev blocks : ℕ → ℕ → History
 blocks kept building = withBlocks (replicate kept (pos 0)) true (replicate building (pos 128)) freshHistory
-
--- Inputs 1 and 2 are good and 1 is selected and Locked, under automatic control and policy 0; the history has a mean of 7, and lacks one sample to 43 blocks.
-abbrev nearlyReady : State
-nearlyReady =
-    record {
-      inputs = clocks true true false;
-      settings = setting 0 0 0;
-      loop = record { mode = locked; lockRun = 16; unlockRun = 0 };
-      choice = settled 1;
-      history = withLast 1 (refilled (replicate 42 (pos 896)) false [] (pos 889) 127 freshHistory);
-      holding = 0;
-    }
-
--- that sample; then 1 stops, 2 is selected and Locked, and 2 stops too
-abbrev lastSample : List Event
-lastSample = tick 0 true (pos 7) ∷ []
-
-abbrev bothStop : List Event
-bothStop = lastSample ++ replicate 6 (tick 0b01 false (pos 0)) ++ replicate 16 (tick 0b01 true (pos 9)) ++ replicate 6 (tick 0b11 false (pos 0))
 
 -- ---- the table
 
@@ -130,11 +110,6 @@ table =
     ∷ noted 1 2 freshHistory .builds is false
     ∷ length (noted 0 2 (blocks 43 42) .building) is 0
     ∷ length (noted 1 2 (blocks 43 42) .building) is 42
-    -- the value lost where a clock dies soon after a switch: the old rules were Ready, and went to Free Run
-    ∷ mode (run nearlyReady bothStop) is holdover
-    ∷ value (run nearlyReady bothStop .history) is pos 7
-    ∷ Ready (oldRun nearlyReady lastSample) is true
-    ∷ mode (oldRun nearlyReady bothStop) is freeRun
     -- 42 building blocks that replace those in use, and 43 that do not; one that goes on building then
     ∷ value (completed (pos 128) (blocks 64 41)) is pos 0
     ∷ value (completed (pos 128) (blocks 64 42)) is pos 1

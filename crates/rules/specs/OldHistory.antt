@@ -1,5 +1,5 @@
--- The history's rules as document 01 has them, before request #102, and the run of a list of events under them: for the comparison (Comparison.antt, and rows of
--- Avoided.antt) and for nothing else. Everything but the history is as the rules have it, and nothing builds.
+-- The history's rules as document 01 has them, before request #102, and the run of a list of events under them: for the comparison (Comparison.antt, and a table of
+-- crate cases) and for nothing else. Everything but the history is as the rules have it, and nothing builds.
 use Prim.Native.Nat.{ℕ, _+_}
 use mathlib.Core.Bool.{Bool, false, not, _&&_}
 use mathlib.Core.List.{List, [], _∷_}
