@@ -1,4 +1,4 @@
--- The kept block sums, as the arrays hold them.
+-- Block sums, as the arrays hold them.
 use Prim.Native.Nat.{ℕ, zero, suc, _+_, _-_, _*_, _≤_, _<_, min}
 use mathlib.Core.Path.{_≡_, refl, ap, sym, _∙_}
 use mathlib.Core.Bool.{not}
