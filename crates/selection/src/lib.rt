@@ -2,7 +2,6 @@
 // contracts hold whatever else the inputs are. The settings are `settingsFrom` of the registers.
 ghost use mathlib.Core.Path.{_≡_};
 ghost use Prim.Native.Nat.{_-_};
-ghost use Rattle.rules.specs.Settings.{delayTicks};
 ghost use Rattle.rules.specs.Selection as selection;
 ghost use Rattle.rules.specs.Selection.{waitAfter};
 ghost use Rattle.rules.specs.Registers.{settingsFrom};
@@ -10,13 +9,13 @@ ghost use Rattle.inputs.specs.Bridge.{inputsOf, withSoak};
 ghost use Rattle.inputs.specs.declared.Monitors as stored;
 ghost use Rattle.candidates.specs.Keys.{keysFrom};
 ghost use Rattle.selection.specs.Bridge.{choiceOf};
-use arith::wide32;
 use candidates::best_of;
 use candidates::is_candidate;
 use inputs::qualified_at;
 use registers::is_automatic;
 use registers::is_revertive;
 use registers::setting;
+use waits::delay_ticks;
 
 // One tick more than the longest delay: the wait stops here.
 const WAIT_LIMIT: u64 = 119_533;
@@ -30,13 +29,6 @@ pub struct Choice {
 }
 
 // ---- the wait
-
-// The rule `delayTicks`: a delay in minutes, in ticks.
-pub fn delay_ticks(minutes: u8) -> u64
-    ensures { λ r. ⌜ r ≡ delayTicks minutes ⌝ }
-{
-    ((1875 * wide32(minutes) + 3) / 4) as u64
-}
 
 // The rule `settled`: selected, with the wait at 0.
 pub fn settled(c: u8) -> Choice
