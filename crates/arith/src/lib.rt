@@ -56,12 +56,6 @@ pub fn wide16(x: u8) -> u16
     x as u16
 }
 
-pub fn wide32(x: u8) -> u32
-    ensures { λ r. ⌜ (r ≡ x) × (r < 256) ⌝ }
-{
-    x as u32
-}
-
 pub fn wide64(x: u8) -> usize
     ensures { λ r. ⌜ (r ≡ x) × (r < 256) ⌝ }
 {
