@@ -1,4 +1,5 @@
-//! The two sheets that are measured: a settled unit, and a mixed list.
+//! The three sheets that are measured: a settled unit, a mixed list, and a
+//! reversion that waits.
 
 use model::{sheet_of, Event, SAMPLE_LIMIT};
 use shared::random::Random;
@@ -6,19 +7,24 @@ use shared::random::Random;
 /// How many events each of the sheets has.
 pub const EVENTS: usize = 8_000;
 
-pub const SHEETS: [(&str, fn() -> Vec<u8>); 2] = [("settled", settled), ("mixed", mixed)];
+pub const SHEETS: [(&str, fn() -> Vec<u8>); 3] =
+    [("settled", settled), ("mixed", mixed), ("waiting", waiting)];
 
 /// Automatic control, all inputs measured well; from then on every event is an
 /// accepted tick with lock, all clocks clean, input 1 soon Locked.
 fn settled() -> Vec<u8> {
     let measured = (1..=8).map(|input| Event::Measurement { input, offset: 0 });
-    let ticks = (0..).map(|index| Event::Tick {
+    let events: Vec<_> = measured.chain(clean_ticks()).take(EVENTS).collect();
+    sheet_of(&[(0x40, 1)], &events)
+}
+
+/// Ticks with lock, all clocks clean.
+fn clean_ticks() -> impl Iterator<Item = Event> {
+    (0..).map(|index| Event::Tick {
         mask: 0,
         lock: true,
         sample: index % 1_000 - 500,
-    });
-    let events: Vec<_> = measured.chain(ticks).take(EVENTS).collect();
-    sheet_of(&[(0x40, 1)], &events)
+    })
 }
 
 /// Ticks with changing irregular masks and lock flags, measurements, writes
@@ -61,4 +67,17 @@ fn any_event(random: &mut Random) -> Event {
             sample,
         },
     }
+}
+
+/// As settled, but with inputs 1 and 2 alone. Input 2 is selected while 1 is
+/// masked; then 1 stands better, and 2, revertive, stays for the longest delay:
+/// from then on every event is an accepted tick of the wait.
+fn waiting() -> Vec<u8> {
+    let measured = (1..=2).map(|input| Event::Measurement { input, offset: 0 });
+    let mut events: Vec<_> = measured.chain(clean_ticks()).take(EVENTS).collect();
+    // After a soak of 79 ticks.
+    let (address, value) = (0x42, 0xff);
+    events[2 + 79] = Event::Write { address, value };
+    let settings = [(0x40, 1), (0x42, 0xfe), (0x1d, 0x08), (0x43, 255)];
+    sheet_of(&settings, &events)
 }
