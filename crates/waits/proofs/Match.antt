@@ -10,7 +10,7 @@ abbrev pub Asked : (ℕ → Type 0) → (ℕ → ℕ) → ℕ → Type 0 → ℕ
 Asked P rule m N i zero = N → P (rule i)
 Asked P rule m N i (suc k) = (m ≡ i → P (rule i)) × Asked P rule m (N × (m ≡ i → ⊥)) (suc i) k
 
--- the claim of the rule's value at m gives all of it, where m is among the keys
+-- the claim of the rule's value at m gives all of it, where N says that m is not below the next key, and m is not past the last
 pub each-arm : (P : ℕ → Type 0) (rule : ℕ → ℕ) (m : ℕ) → P (rule m)
     → (N : Type 0) (i k : ℕ) → (N → i ≤ m) → m ≤ i + k → Asked P rule m N i k
 each-arm P rule m p N i zero from to = λ h. let here : m ≡ i = omega (arith, from h) in subst (λ j. P (rule j)) here p

@@ -1,7 +1,7 @@
 //! The three sheets that are measured: a settled unit, a mixed list, and a
 //! reversion that waits.
 
-use model::{sheet_of, Event, SAMPLE_LIMIT};
+use model::{sheet_of, Event, SAMPLE_LIMIT, SOAK_TICKS};
 use shared::random::Random;
 
 /// How many events each of the sheets has.
@@ -70,14 +70,14 @@ fn any_event(random: &mut Random) -> Event {
 }
 
 /// As settled, but with inputs 1 and 2 alone. Input 2 is selected while 1 is
-/// masked; then 1 stands better, and 2, revertive, stays for the longest delay:
-/// from then on every event is an accepted tick of the wait.
+/// masked; after a soak 1 stands better, and 2, revertive, stays for the longest
+/// delay: from then on every event is an accepted tick of the wait. In the other
+/// two sheets the delay is 0, and no wait is left running.
 fn waiting() -> Vec<u8> {
     let measured = (1..=2).map(|input| Event::Measurement { input, offset: 0 });
     let mut events: Vec<_> = measured.chain(clean_ticks()).take(EVENTS).collect();
-    // After a soak of 79 ticks.
     let (address, value) = (0x42, 0xff);
-    events[2 + 79] = Event::Write { address, value };
+    events[2 + usize::from(SOAK_TICKS)] = Event::Write { address, value };
     let settings = [(0x40, 1), (0x42, 0xfe), (0x1d, 0x08), (0x43, 255)];
     sheet_of(&settings, &events)
 }

@@ -49,7 +49,7 @@ fn tick_of_switch<D: Device>(device: &mut D, delay: u8) -> Option<u32> {
 }
 
 /// Automatic control, inputs 1 and 2 measured good and qualified; 2 alone was
-/// usable and is selected, revertive; now 1 is usable too and waits.
+/// usable and is selected, revertive; now 1 is usable too, and the wait begins.
 fn begin_reversion<D: Device>(device: &mut D, delay: u8) {
     for (address, value) in [(0x40, 1), (0x42, 0xfe), (0x1d, 0x08), (0x43, delay)] {
         send(device, Event::Write { address, value });

@@ -4,7 +4,7 @@
 //! input 2 stays selected to the last record. In the differ, a test of the same
 //! name has all waits to their end, event by event, and compares n with its rule.
 
-use model::{pages_of, sheet_of, wait_limit, Event, BYTES_PER_PAGE, BYTES_PER_RECORD};
+use model::{pages_of, sheet_of, wait_limit, Event, BYTES_PER_PAGE, BYTES_PER_RECORD, SOAK_TICKS};
 #[cfg(feature = "sheets")]
 use sheets_differ::runner::CONTROLLER;
 use sheets_differ::runner::{Runner, MODEL, TUNED_MODEL};
@@ -12,15 +12,16 @@ use sheets_differ::runner::{Runner, MODEL, TUNED_MODEL};
 /// As many as a sheet with four settings has room for.
 const EVENTS: usize = 8_190;
 const RECORDS: usize = 4 + EVENTS;
+const SOAK: usize = SOAK_TICKS as usize;
 /// The records before the wait: settings, two measurements, a soak, a write.
-const BEFORE: usize = 4 + 2 + 79 + 1;
+const BEFORE: usize = 4 + 2 + SOAK + 1;
 /// The longest delay whose wait ends in a sheet. The switch comes in tick 7,970
 /// of the 8,108 that there are; with the next delay it would in tick 8,439.
 const LONGEST_DELAY: u8 = 17;
 
 /// Automatic control, inputs 1 and 2 measured good and qualified; 2 alone was
-/// usable and is selected, revertive; then 1 is usable too and waits. The lock
-/// flags are set, so that no lock alarm comes.
+/// usable and is selected, revertive; then 1 is usable too, and the wait begins.
+/// The lock flags are set, so that no lock alarm comes.
 fn reverting(delay: u8) -> Vec<u8> {
     let settings = [(0x40, 1), (0x42, 0xfe), (0x1d, 0x08), (0x43, delay)];
     let (mask, lock, sample) = (0, true, 0);
@@ -29,7 +30,7 @@ fn reverting(delay: u8) -> Vec<u8> {
     let measured = [1, 2].map(|input| Event::Measurement { input, offset: 0 });
     events[..2].copy_from_slice(&measured);
     let (address, value) = (0x42, 0xff);
-    events[2 + 79] = Event::Write { address, value };
+    events[2 + SOAK] = Event::Write { address, value };
     sheet_of(&settings, &events)
 }
 

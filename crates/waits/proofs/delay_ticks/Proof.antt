@@ -15,6 +15,7 @@ use Rattle.waits.proofs.delay_ticks.Reads as reads
 abbrev Wanted : ℕ → ℕ → Type 0
 Wanted minutes n = (Unit {0} × Unit {0}) × (n ≡ delayTicks minutes)
 
+-- The rule is unfolded, so that antt may compute it. A byte is at most 255 (`good`), so `_` is the delay 255.
 pub delay-ticks-spec : {M : Type 1} → statement M
 unfolding delayTicks
 delay-ticks-spec =
