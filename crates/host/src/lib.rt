@@ -1,7 +1,9 @@
 // The unit's state lent by the host (document 01: "The host owns the unit's state and lends it for each event; the event updates it and touches nothing
-// else"). Three functions are exported to C and Rust; each is thin over a function by value. `unit_event` alone stores through the reference that it is
-// lent, and only if the event is accepted.
+// else"). Five functions are exported to C and Rust; each is thin over a function by value. What stores through the reference that it is lent does so only
+// if the event or the call is accepted.
 ghost use mathlib.Core.Path.{_≡_};
+ghost use Rattle.rules.specs.Events.{setBucket, assignBucket};
+ghost use Rattle.rules.specs.Sheet as sheet;
 ghost use Rattle.rules.specs.Sheet.{fields};
 ghost use Rattle.host.specs.Lent.{Made, Leads, Shows};
 use fields::Decoded;
@@ -22,6 +24,20 @@ pub fn event(u: Unit, kind: u8, a: u8, b: u8, word: i32) -> Outcome
         };
     };
     unit::handle(e, u)
+}
+
+// A set of bucket numbers is set (document 02, #104): size S, set level U, clear level L, and d.
+pub fn set_bucket(u: Unit, set: u8, size: u8, high: u8, low: u8, decay: u8) -> Outcome
+    ensures { λ r. ⌜ Leads u (sheet.event (setBucket set size high low decay)) (r .refusal) (r .unit) ⌝ }
+{
+    calls::set_bucket(u, set, size, high, low, decay)
+}
+
+// An input is assigned a set.
+pub fn assign_bucket(u: Unit, input: u8, set: u8) -> Outcome
+    ensures { λ r. ⌜ Leads u (sheet.event (assignBucket input set)) (r .refusal) (r .unit) ⌝ }
+{
+    calls::assign_bucket(u, input, set)
 }
 
 // A byte as a 16-bit number.
@@ -55,6 +71,30 @@ pub extern "C" fn unit_event(u: &mut Unit, kind: u8, a: u8, b: u8, word: i32) ->
     ensures { λ r. ⌜ Leads (now (u .entry)) (fields kind a b word) r (now (u .exit)) ⌝ }
 {
     let o = event(*u, kind, a, b, word);
+    if o.refusal == 0 {
+        *u = o.unit;
+    }
+    o.refusal
+}
+
+// A set of bucket numbers of a lent unit is set: 14 or 0. A refusal stores nothing.
+#[no_mangle]
+pub extern "C" fn unit_set_bucket(u: &mut Unit, set: u8, size: u8, high: u8, low: u8, decay: u8) -> u8
+    ensures { λ r. ⌜ Leads (now (u .entry)) (sheet.event (setBucket set size high low decay)) r (now (u .exit)) ⌝ }
+{
+    let o = set_bucket(*u, set, size, high, low, decay);
+    if o.refusal == 0 {
+        *u = o.unit;
+    }
+    o.refusal
+}
+
+// An input of a lent unit is assigned a set: 6, 14 or 0. A refusal stores nothing.
+#[no_mangle]
+pub extern "C" fn unit_assign_bucket(u: &mut Unit, input: u8, set: u8) -> u8
+    ensures { λ r. ⌜ Leads (now (u .entry)) (sheet.event (assignBucket input set)) r (now (u .exit)) ⌝ }
+{
+    let o = assign_bucket(*u, input, set);
     if o.refusal == 0 {
         *u = o.unit;
     }

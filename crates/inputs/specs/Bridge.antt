@@ -9,6 +9,8 @@ use lib.Dec.{eqb}
 use lib.ListN.{getD}
 use Rattle.rules.specs.Monitors.{Input}
 use Rattle.rules.specs.Selection.{Inputs}
+use Rattle.buckets.specs.Bridge.{eight}
+use Rattle.buckets.specs.declared.Buckets.{Buckets}
 use Rattle.inputs.specs.declared.Monitors.{Monitors}
 
 -- an alarm that is a number: 0 is clear, any other number is set
@@ -25,10 +27,6 @@ inputAt m k =
       soak = getD (m .soak) k 0;
     }
 
--- eight values, by their places
-abbrev pub eight : {A : Type 0} → (ℕ → A) → List A
-eight f = f 0 ∷ f 1 ∷ f 2 ∷ f 3 ∷ f 4 ∷ f 5 ∷ f 6 ∷ f 7 ∷ []
-
 -- the rules' eight inputs that the rows hold
 unfoldable pub inputsOf : Monitors → Inputs
 inputsOf m = eight (inputAt m)
@@ -38,7 +36,7 @@ inputsOf m = eight (inputAt m)
 -- other frequency alarms, remainders and soaks
 abbrev pub withAlarms : Monitors → List ℕ → List ℕ → List ℕ → Monitors
 withAlarms m frequency remainder soak =
-    record { level = m .level; decay = m .decay; active = m .active; frequency = frequency; remainder = remainder; soak = soak }
+    record { level = m .level; decay = m .decay; active = m .active; frequency = frequency; remainder = remainder; soak = soak; buckets = m .buckets }
 
 abbrev pub withFrequency : Monitors → List ℕ → Monitors
 withFrequency m frequency = withAlarms m frequency (m .remainder) (m .soak)
@@ -55,9 +53,9 @@ withSoak m soak = withAlarms m (m .frequency) (m .remainder) soak
 abbrev pub Row : Type 0
 Row = Both (RefT (List ℕ)) (RefT (List ℕ))
 
--- what a tick is lent of the inputs: five rows for a change, and the frequency alarms for reading
-abbrev pub entering : Row → Row → Row → List ℕ → Row → Row → Monitors
-entering level decay active frequency remainder soak =
+-- what a tick is lent of the inputs: five rows for a change, and the frequency alarms for reading; the sets are not lent
+abbrev pub entering : Row → Row → Row → List ℕ → Row → Row → Buckets → Monitors
+entering level decay active frequency remainder soak buckets =
     record {
       level = now (level .entry);
       decay = now (decay .entry);
@@ -65,10 +63,11 @@ entering level decay active frequency remainder soak =
       frequency = frequency;
       remainder = now (remainder .entry);
       soak = now (soak .entry);
+      buckets = buckets;
     }
 
-abbrev pub leaving : Row → Row → Row → List ℕ → Row → Row → Monitors
-leaving level decay active frequency remainder soak =
+abbrev pub leaving : Row → Row → Row → List ℕ → Row → Row → Buckets → Monitors
+leaving level decay active frequency remainder soak buckets =
     record {
       level = now (level .exit);
       decay = now (decay .exit);
@@ -76,9 +75,10 @@ leaving level decay active frequency remainder soak =
       frequency = frequency;
       remainder = now (remainder .exit);
       soak = now (soak .exit);
+      buckets = buckets;
     }
 
--- what is said of the rows as a call begins and as it returns
+-- what is said of the rows as a call begins and as it returns, whatever the sets are
 abbrev pub across : Row → Row → Row → List ℕ → Row → Row → (Monitors → Monitors → Type 0) → Type 0
 across level decay active frequency remainder soak says =
-    says (entering level decay active frequency remainder soak) (leaving level decay active frequency remainder soak)
+    (buckets : Buckets) → says (entering level decay active frequency remainder soak buckets) (leaving level decay active frequency remainder soak buckets)

@@ -1,4 +1,5 @@
-// The eight inputs' stored numbers (document 01, "Monitors"): fresh, which are qualified, and one of them altered by a measurement, a lock alarm or a Hit.
+// The eight inputs' stored numbers (document 01, "Monitors"): fresh, which are qualified, one of them altered by a measurement, a lock alarm or a Hit, and
+// some of them put at their bucket's size by a call (document 02, #104).
 // Each number has a row of eight, input 1 first. A function is lent the rows that it needs, and its contract holds whatever the others are.
 ghost use mathlib.Core.Path.{_≡_};
 ghost use Prim.Native.Nat.{_-_};
@@ -6,9 +7,12 @@ ghost use mathlib.Core.Bool.{_&&_};
 ghost use lib.IntN.{natAbs};
 ghost use lib.ListN.{length, replicate};
 ghost use lib.ListN as ListN;
-ghost use Rattle.rules.specs.Words.{isInput};
+ghost use Rattle.rules.specs.Words.{if_then_else_, isInput};
 ghost use Rattle.rules.specs.Monitors.{qualified, unsoaked, lockAlarmed, frequencyAfter, measured, freshInput};
 ghost use Rattle.rules.specs.Selection.{input, altered};
+ghost use Rattle.rules.specs.Buckets.{freshBuckets, putAtSize};
+ghost use Rattle.buckets.specs.Bridge.{eight, bucketsOf};
+ghost use Rattle.buckets.specs.declared.Buckets as sets;
 ghost use Rattle.rules.specs.Reading.{maskUpTo};
 ghost use Rattle.rules.specs.Sheet.{signedByte};
 ghost use Rattle.inputs.specs.Bridge.{isSet, inputsOf, withFrequency, withLockAlarms, withSoak};
@@ -17,6 +21,7 @@ use arith::down;
 use arith::either;
 use arith::mask_of;
 use arith::wide16;
+use buckets::Buckets;
 
 // The soak of a qualified input.
 pub const FULL_SOAK: u16 = 79;
@@ -25,7 +30,7 @@ pub const FULL_SOAK: u16 = 79;
 const ALARM_TICKS: u16 = 782;
 
 // The rows: the bucket's level and decay count, the activity alarm, the frequency alarm, the lock alarm's remainder, the soak. An alarm is set when it is
-// not 0.
+// not 0. Beside them the sets of bucket numbers.
 #[repr(C)]
 pub struct Monitors {
     pub level: [u16; 8],
@@ -34,12 +39,14 @@ pub struct Monitors {
     pub frequency: [u16; 8],
     pub remainder: [u16; 8],
     pub soak: [u16; 8],
+    pub buckets: Buckets,
 }
 
 // "Fresh: all counts 0, activity alarms clear, frequency alarms set"
 pub fn fresh_monitors() -> Monitors
-    ensures { λ r. ⌜ inputsOf r ≡ replicate 8 freshInput ⌝ }
+    ensures { λ r. ⌜ (inputsOf r ≡ replicate 8 freshInput) × (bucketsOf (r .buckets) ≡ freshBuckets) ⌝ }
 {
+    let buckets = buckets::fresh_buckets();
     Monitors {
         level: [0; 8],
         decay: [0; 8],
@@ -47,6 +54,7 @@ pub fn fresh_monitors() -> Monitors
         frequency: [1; 8],
         remainder: [0; 8],
         soak: [0; 8],
+        buckets: buckets,
     }
 }
 
@@ -132,6 +140,45 @@ pub fn unsoak(soak: &mut [u16; 8], i: u8)
 {
     let k = place(i);
     put(soak, k, 0);
+}
+
+// ---- put at the bucket's size
+
+// One value for each input that is concerned; the others keep theirs.
+fn replaced(concerned: [u16; 8], v: u16, row: [u16; 8]) -> [u16; 8]
+    ensures { λ r. ⌜ r ≡ eight (λ k. if isSet (ListN.getD concerned k 0) then v else ListN.getD row k 0) ⌝ }
+{
+    [
+        either(concerned[0] != 0, v, row[0]),
+        either(concerned[1] != 0, v, row[1]),
+        either(concerned[2] != 0, v, row[2]),
+        either(concerned[3] != 0, v, row[3]),
+        either(concerned[4] != 0, v, row[4]),
+        either(concerned[5] != 0, v, row[5]),
+        either(concerned[6] != 0, v, row[6]),
+        either(concerned[7] != 0, v, row[7]),
+    ]
+}
+
+// The rule `putAtSize`, with these sets beside the rows.
+pub fn put_at_size(m: Monitors, concerned: [u16; 8], size: u16, b: Buckets) -> Monitors
+    ensures { λ r. ⌜ (inputsOf r ≡ putAtSize (λ i. isSet (ListN.getD concerned (i - 1) 0)) size (inputsOf m)) × (r .buckets ≡ b) ⌝ }
+{
+    let level = replaced(concerned, size, m.level);
+    let decay = replaced(concerned, 0, m.decay);
+    let active = replaced(concerned, 1, m.active);
+    let frequency = m.frequency;
+    let remainder = m.remainder;
+    let soak = m.soak;
+    Monitors {
+        level: level,
+        decay: decay,
+        active: active,
+        frequency: frequency,
+        remainder: remainder,
+        soak: soak,
+        buckets: b,
+    }
 }
 
 // ---- qualified

@@ -1,12 +1,13 @@
 // Tick steps 1 and 2 of the eight inputs (document 01, "Monitors (tick steps 1, 2)"): bucket, activity alarm, the lock alarm's remainder, soak.
-// Each number's row of eight is computed as a row, by a function of one input's numbers.
+// Each number's row of eight is computed as a row, by a function of one input's numbers, those of its bucket among them (document 02, #104).
 ghost use mathlib.Core.Path.{_≡_};
 ghost use Prim.Native.Nat.{_+_, _-_};
 ghost use lib.Dec.{leb};
 ghost use lib.ListN.{getD};
-ghost use Rattle.rules.specs.Monitors.{bucket, levelAfter, decayAfter, good, soakAfter};
+ghost use Rattle.rules.specs.Monitors.{levelAfter, decayAfter, good, soakAfter};
 ghost use Rattle.rules.specs.Tick as Tick;
-ghost use Rattle.inputs.specs.Bridge.{isSet, eight, inputsOf, across};
+ghost use Rattle.buckets.specs.Bridge.{eight, bucketAt};
+ghost use Rattle.inputs.specs.Bridge.{isSet, inputsOf, across};
 ghost use Rattle.monitor.specs.Rows.{weight, activeAfter};
 use arith::both;
 use arith::down;
@@ -15,54 +16,38 @@ use arith::up;
 use arith::wide16;
 use inputs::FULL_SOAK;
 
-// The bucket's size.
-const SIZE: u16 = 8;
-
-// The level that sets the activity alarm.
-const SET_LEVEL: u16 = 6;
-
-// The level that clears it.
-const CLEAR_LEVEL: u16 = 4;
-
-// The clean ticks after which the level falls.
-const DECAY_TICKS: u16 = 2;
-
-// ---- one input
+// ---- one input: `size`, `high`, `low` and `span` are its bucket's size, set level, clear level and ticks of a decay
 
 // Whether a clean tick brings the decay count to its end.
-fn decays(decay: u16) -> bool
-    ensures { λ r. ⌜ r ≡ leb (bucket .decayTicks) (decay + 1) ⌝ }
+fn decays(span: u16, decay: u16) -> bool
+    ensures { λ r. ⌜ r ≡ leb span (decay + 1) ⌝ }
 {
-    DECAY_TICKS - 1 <= decay
+    down(span) <= decay
 }
 
 // The rule `levelAfter`.
-fn level_of(bad: bool, level: u16, decay: u16) -> u16
-    ensures { λ r. ⌜ r ≡ levelAfter bucket bad level decay ⌝ }
+fn level_of(size: u16, span: u16, bad: bool, level: u16, decay: u16) -> u16
+    ensures { λ r. ⌜ r ≡ levelAfter size span bad level decay ⌝ }
 {
     either(
         bad,
-        up(level, SIZE),
-        either(decays(decay), down(level), level),
+        up(level, size),
+        either(decays(span, decay), down(level), level),
     )
 }
 
 // The rule `decayAfter`.
-fn decay_of(bad: bool, decay: u16) -> u16
-    ensures { λ r. ⌜ r ≡ decayAfter bucket bad decay ⌝ }
+fn decay_of(span: u16, bad: bool, decay: u16) -> u16
+    ensures { λ r. ⌜ r ≡ decayAfter span bad decay ⌝ }
 {
-    either(bad, 0, either(decays(decay), 0, up(decay, DECAY_TICKS)))
+    either(bad, 0, either(decays(span, decay), 0, up(decay, span)))
 }
 
 // The rule `alarmAfter`, as a number: 1 where it is set anew.
-fn active_of(level: u16, active: u16) -> u16
-    ensures { λ r. ⌜ r ≡ activeAfter level active ⌝ }
+fn active_of(high: u16, low: u16, level: u16, active: u16) -> u16
+    ensures { λ r. ⌜ r ≡ activeAfter high low level active ⌝ }
 {
-    either(
-        SET_LEVEL <= level,
-        1,
-        either(level <= CLEAR_LEVEL, 0, active),
-    )
+    either(high <= level, 1, either(level <= low, 0, active))
 }
 
 // The rule `good`.
@@ -102,48 +87,48 @@ fn irregular_row(mask: u8) -> [u16; 8]
     ]
 }
 
-fn level_row(b: [u16; 8], l: [u16; 8], d: [u16; 8]) -> [u16; 8]
-    ensures { λ r. ⌜ r ≡ eight (λ k. levelAfter bucket (isSet (getD b k 0)) (getD l k 0) (getD d k 0)) ⌝ }
+fn level_row(s: [u16; 8], t: [u16; 8], b: [u16; 8], l: [u16; 8], d: [u16; 8]) -> [u16; 8]
+    ensures { λ r. ⌜ r ≡ eight (λ k. levelAfter (getD s k 0) (getD t k 0) (isSet (getD b k 0)) (getD l k 0) (getD d k 0)) ⌝ }
 {
     [
-        level_of(b[0] != 0, l[0], d[0]),
-        level_of(b[1] != 0, l[1], d[1]),
-        level_of(b[2] != 0, l[2], d[2]),
-        level_of(b[3] != 0, l[3], d[3]),
-        level_of(b[4] != 0, l[4], d[4]),
-        level_of(b[5] != 0, l[5], d[5]),
-        level_of(b[6] != 0, l[6], d[6]),
-        level_of(b[7] != 0, l[7], d[7]),
+        level_of(s[0], t[0], b[0] != 0, l[0], d[0]),
+        level_of(s[1], t[1], b[1] != 0, l[1], d[1]),
+        level_of(s[2], t[2], b[2] != 0, l[2], d[2]),
+        level_of(s[3], t[3], b[3] != 0, l[3], d[3]),
+        level_of(s[4], t[4], b[4] != 0, l[4], d[4]),
+        level_of(s[5], t[5], b[5] != 0, l[5], d[5]),
+        level_of(s[6], t[6], b[6] != 0, l[6], d[6]),
+        level_of(s[7], t[7], b[7] != 0, l[7], d[7]),
     ]
 }
 
-fn decay_row(b: [u16; 8], d: [u16; 8]) -> [u16; 8]
-    ensures { λ r. ⌜ r ≡ eight (λ k. decayAfter bucket (isSet (getD b k 0)) (getD d k 0)) ⌝ }
+fn decay_row(t: [u16; 8], b: [u16; 8], d: [u16; 8]) -> [u16; 8]
+    ensures { λ r. ⌜ r ≡ eight (λ k. decayAfter (getD t k 0) (isSet (getD b k 0)) (getD d k 0)) ⌝ }
 {
     [
-        decay_of(b[0] != 0, d[0]),
-        decay_of(b[1] != 0, d[1]),
-        decay_of(b[2] != 0, d[2]),
-        decay_of(b[3] != 0, d[3]),
-        decay_of(b[4] != 0, d[4]),
-        decay_of(b[5] != 0, d[5]),
-        decay_of(b[6] != 0, d[6]),
-        decay_of(b[7] != 0, d[7]),
+        decay_of(t[0], b[0] != 0, d[0]),
+        decay_of(t[1], b[1] != 0, d[1]),
+        decay_of(t[2], b[2] != 0, d[2]),
+        decay_of(t[3], b[3] != 0, d[3]),
+        decay_of(t[4], b[4] != 0, d[4]),
+        decay_of(t[5], b[5] != 0, d[5]),
+        decay_of(t[6], b[6] != 0, d[6]),
+        decay_of(t[7], b[7] != 0, d[7]),
     ]
 }
 
-fn active_row(l: [u16; 8], a: [u16; 8]) -> [u16; 8]
-    ensures { λ r. ⌜ r ≡ eight (λ k. activeAfter (getD l k 0) (getD a k 0)) ⌝ }
+fn active_row(h: [u16; 8], w: [u16; 8], l: [u16; 8], a: [u16; 8]) -> [u16; 8]
+    ensures { λ r. ⌜ r ≡ eight (λ k. activeAfter (getD h k 0) (getD w k 0) (getD l k 0) (getD a k 0)) ⌝ }
 {
     [
-        active_of(l[0], a[0]),
-        active_of(l[1], a[1]),
-        active_of(l[2], a[2]),
-        active_of(l[3], a[3]),
-        active_of(l[4], a[4]),
-        active_of(l[5], a[5]),
-        active_of(l[6], a[6]),
-        active_of(l[7], a[7]),
+        active_of(h[0], w[0], l[0], a[0]),
+        active_of(h[1], w[1], l[1], a[1]),
+        active_of(h[2], w[2], l[2], a[2]),
+        active_of(h[3], w[3], l[3], a[3]),
+        active_of(h[4], w[4], l[4], a[4]),
+        active_of(h[5], w[5], l[5], a[5]),
+        active_of(h[6], w[6], l[6], a[6]),
+        active_of(h[7], w[7], l[7], a[7]),
     ]
 }
 
@@ -177,7 +162,7 @@ fn soak_row(a: [u16; 8], f: [u16; 8], r: [u16; 8], s: [u16; 8]) -> [u16; 8]
     ]
 }
 
-// The rule `watched`: steps 1 and 2, in the rows where they lie.
+// The rule `watched`: steps 1 and 2, in the rows where they lie, with the buckets of these four rows.
 pub fn watched(
     mask: u8,
     level: &mut [u16; 8],
@@ -186,8 +171,12 @@ pub fn watched(
     frequency: &[u16; 8],
     remainder: &mut [u16; 8],
     soak: &mut [u16; 8],
+    sizes: &[u16; 8],
+    highs: &[u16; 8],
+    lows: &[u16; 8],
+    spans: &[u16; 8],
 )
-    ensures { λ _. ⌜ across level decay active (now (frequency .entry)) remainder soak (λ before after. inputsOf after ≡ Tick.watched mask (inputsOf before)) ⌝ }
+    ensures { λ _. ⌜ across level decay active (now (frequency .entry)) remainder soak (λ before after. inputsOf after ≡ Tick.watched (λ i. bucketAt (now (sizes .entry)) (now (highs .entry)) (now (lows .entry)) (now (spans .entry)) (i - 1)) mask (inputsOf before)) ⌝ }
 {
     let b = irregular_row(mask);
     let l0 = *level;
@@ -196,9 +185,9 @@ pub fn watched(
     let f0 = *frequency;
     let r0 = *remainder;
     let s0 = *soak;
-    let l = level_row(b, l0, d0);
-    let d = decay_row(b, d0);
-    let a = active_row(l, a0);
+    let l = level_row(*sizes, *spans, b, l0, d0);
+    let d = decay_row(*spans, b, d0);
+    let a = active_row(*highs, *lows, l, a0);
     let r = remainder_row(r0);
     let s = soak_row(a, f0, r, s0);
     *level = l;

@@ -9,16 +9,17 @@ use native.Mathlib.Omega.{arith}
 use lib.Dec.{eqb}
 use lib.IntN.{ℤ}
 use Rattle.rules.specs.Words.{if_then_else_, isTracked}
-use Rattle.rules.specs.Events.{Event, tick, measurement, hit, write}
+use Rattle.rules.specs.Events.{Event, tick, measurement, hit, write, setBucket, assignBucket}
 use Rattle.rules.specs.Pll.{alarmDue}
 use Rattle.rules.specs.Settings.{policy}
-use Rattle.rules.specs.Selection.{Choice, chosen, unselectedLoop}
+use Rattle.rules.specs.Selection.{Inputs, Choice, chosen, unselectedLoop}
+use Rattle.rules.specs.Buckets.{bucketFrom, Buckets, setAt, withSet, withAssigned, putAtSize, having}
 use Rattle.rules.specs.History.{held, filling, commanded, freshHistory}
 use Rattle.rules.specs.State.{State, selected, Ready}
-use Rattle.rules.specs.Tick.{loopAfter, inputsAfter, steps1to4, step5, ticked}
+use Rattle.rules.specs.Tick.{watchedAfter, loopAfter, inputsAfter, steps1to4, step5, ticked}
 use Rattle.rules.specs.Registers.{freshFrom, fresh}
 use Rattle.rules.specs.Refusals.{commandRefused, refusal, accepted}
-use Rattle.rules.specs.Run.{afterMeasurement, afterHit, afterWrite, effect, next, run}
+use Rattle.rules.specs.Run.{afterMeasurement, afterHit, afterWrite, afterCall, afterSet, afterAssign, effect, next, run}
 use Rattle.rules.specs.Laws.{SoundHistory, Lawful}
 use Rattle.rules.specs.OldHistory.{oldCommanded, withHistory, oldEffect, oldNext, oldRun}
 use Rattle.rules.specs.Comparison.{NeverLessReady}
@@ -30,6 +31,7 @@ use Rattle.rules.proofs.Behind.{Behind, behind-ready, behind-emptied, b
 
 record Twin (o n : State) : Type 0 where
   pub inputs-is : o .inputs ≡ n .inputs
+  pub buckets-is : o .buckets ≡ n .buckets
   pub settings-is : o .settings ≡ n .settings
   pub choice-is : o .choice ≡ n .choice
   pub loops : LoopAlike (o .loop) (n .loop)
@@ -46,8 +48,8 @@ module _ (o n : State) (t : Twin o n) (w : SoundHistory (n .history)) where
     driven-alike = rw (t .choice-is) (alike-looped (isTracked (selected n)) lock (o .loop) (n .loop) (t .loops))
 
     inputs-same : inputsAfter mask lock o ≡ inputsAfter mask lock n
-    unfolding inputsAfter alarmDue
-    inputs-same = rw (driven-alike .unlock-is, t .choice-is, t .inputs-is) refl
+    unfolding inputsAfter watchedAfter alarmDue
+    inputs-same = rw (driven-alike .unlock-is, t .choice-is, t .buckets-is, t .inputs-is) refl
 
     choice-same : chosen (o .settings) (inputsAfter mask lock o) (o .choice) ≡ chosen (n .settings) (inputsAfter mask lock n) (n .choice)
     choice-same = rw (inputs-same, t .settings-is, t .choice-is) refl
@@ -63,6 +65,7 @@ module _ (o n : State) (t : Twin o n) (w : SoundHistory (n .history)) where
     twin-tick x =
         record {
           inputs-is = inputs-same;
+          buckets-is = t .buckets-is;
           settings-is = t .settings-is;
           choice-is = choice-same;
           loops = loops-alike;
@@ -77,6 +80,7 @@ module _ (o n : State) (t : Twin o n) (w : SoundHistory (n .history)) where
   twin-measured i x =
       record {
         inputs-is = rw (t .settings-is, t .inputs-is) refl;
+        buckets-is = t .buckets-is;
         settings-is = t .settings-is;
         choice-is = t .choice-is;
         loops = t .loops;
@@ -89,10 +93,25 @@ module _ (o n : State) (t : Twin o n) (w : SoundHistory (n .history)) where
   twin-hit =
       record {
         inputs-is = rw (t .choice-is, t .inputs-is) refl;
+        buckets-is = t .buckets-is;
         settings-is = t .settings-is;
         choice-is = refl;
         loops = record { modes = alike-none (Ready o) (Ready n) twin-ready; lock-is = refl; unlock-is = refl };
         behind = behind-emptied (o .history) (n .history) (t .behind);
+      }
+
+  -- a call
+  twin-called : (f : Buckets → Buckets) (g : Buckets → Inputs → Inputs)
+      → Twin (afterCall (f (o .buckets)) (g (o .buckets) (o .inputs)) o) (afterCall (f (n .buckets)) (g (n .buckets) (n .inputs)) n)
+  unfolding afterCall
+  twin-called f g =
+      record {
+        inputs-is = rw (t .buckets-is, t .inputs-is) refl;
+        buckets-is = ap f (t .buckets-is);
+        settings-is = t .settings-is;
+        choice-is = t .choice-is;
+        loops = t .loops;
+        behind = t .behind;
       }
 
   -- a write that both accept, and a command that the new rules alone accept
@@ -102,6 +121,7 @@ module _ (o n : State) (t : Twin o n) (w : SoundHistory (n .history)) where
     twin-written =
         record {
           inputs-is = t .inputs-is;
+          buckets-is = t .buckets-is;
           settings-is = rw (t .settings-is) refl;
           choice-is = t .choice-is;
           loops = t .loops;
@@ -117,6 +137,7 @@ module _ (o n : State) (t : Twin o n) (w : SoundHistory (n .history)) where
     twin-alone e which =
         record {
           inputs-is = t .inputs-is;
+          buckets-is = t .buckets-is;
           settings-is = rw e (t .settings-is);
           choice-is = t .choice-is;
           loops = t .loops;
@@ -159,11 +180,17 @@ module _ (o n : State) (t : Twin o n) (w : SoundHistory (n .history)) where
   both false false e z = t
 
   twin-next : (e : Event) → Twin (oldNext o e) (next n e)
-  unfolding oldNext oldEffect next effect refusal
+  unfolding oldNext oldEffect next effect refusal afterSet afterAssign bucketFrom
   twin-next (tick mask lock x) = both (accepted n (tick mask lock x)) (accepted n (tick mask lock x)) refl (twin-tick o n t w mask lock x)
   twin-next (measurement i x) = both (accepted n (measurement i x)) (accepted n (measurement i x)) refl (twin-measured o n t w i x)
   twin-next hit = both (accepted o hit) (accepted n hit) (ap (λ (c : Choice). eqb (if isTracked (c .selected) then 0 else 5) 0) (t .choice-is)) (twin-hit o n t w)
   twin-next (write a v) = twin-write a v
+  twin-next (setBucket m size setLevel clearLevel d) =
+      both (accepted n (setBucket m size setLevel clearLevel d)) (accepted n (setBucket m size setLevel clearLevel d)) refl
+      (twin-called o n t w (withSet m (bucketFrom size setLevel clearLevel d)) (λ bs. putAtSize (having bs m) size))
+  twin-next (assignBucket i m) =
+      both (accepted n (assignBucket i m)) (accepted n (assignBucket i m)) refl
+      (twin-called o n t w (withAssigned i m) (λ bs. putAtSize (λ j. eqb j i) (setAt bs m .size)))
 
 twin-run : (es : List Event) (o n : State) → Twin o n → Lawful n → Twin (oldRun o es) (run n es)
 unfolding run oldRun
@@ -175,6 +202,7 @@ unfolding fresh freshFrom freshHistory filling
 twin-fresh =
     record {
       inputs-is = refl;
+      buckets-is = refl;
       settings-is = refl;
       choice-is = refl;
       loops = record { modes = same; lock-is = refl; unlock-is = refl };

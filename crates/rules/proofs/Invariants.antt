@@ -10,22 +10,24 @@ use lib.IntN.{ℤ, natAbs}
 use lib.ListN.{getD-replicate}
 use borrow.Author.Tests.{eqb-true, eqb-false, leb-true, ltb-false, le-ltb, eq-eqb, ne-eqb, not-false}
 use Rattle.rules.specs.Words.{isInput, isTracked}
-use Rattle.rules.specs.Events.{Event, tick, measurement, hit, write, sampleLimit}
-use Rattle.rules.specs.Monitors.{bucketOf, unsoaked, freshInput}
+use Rattle.rules.specs.Events.{Event, tick, measurement, hit, write, setBucket, assignBucket, sampleLimit}
+use Rattle.rules.specs.Monitors.{Bucket, unsoaked, freshInput}
 use Rattle.rules.specs.Pll.{Mode, freeRun, holdover, modeNumber, is}
 use Rattle.rules.specs.Settings.{Settings, reject, qualification}
-use Rattle.rules.specs.Selection.{settled, unselectedMode, unselectedLoop}
+use Rattle.rules.specs.Selection.{Inputs, settled, unselectedMode, unselectedLoop}
+use Rattle.rules.specs.Buckets.{inBounds, isSetNumber, bucketFrom, Buckets, startBucket, bucketOf}
 use Rattle.rules.specs.History.{History, freshHistory, held}
 use Rattle.rules.specs.State.{State, selected, Ready}
 use Rattle.rules.specs.Tick.{holdingLimit, holdingAfter, steps1to4, step5, ticked}
 use Rattle.rules.specs.Registers.{place, inMap, registers, register, readOnly, largest, stored, written, settingsFrom, freshFrom, freshTable, fresh}
-use Rattle.rules.specs.Refusals.{limitsApart, limitsRefused, commandRefused, writeRefusal, refusal, accepted}
-use Rattle.rules.specs.Run.{afterMeasurement, afterHit, afterWrite, effect, next, run}
-use Rattle.rules.specs.Laws.{SoundSettings, SoundHistory, Lawful, Invariants, Saturation}
-use Rattle.rules.proofs.Tests.{if-case, by-test, clash, and-false, or-false, low, high, unrefused, zero-if}
+use Rattle.rules.specs.Refusals.{limitsApart, limitsRefused, commandRefused, writeRefusal, setRefusal, assignRefusal, refusal, accepted}
+use Rattle.rules.specs.Run.{afterMeasurement, afterHit, afterWrite, afterCall, afterSet, afterAssign, effect, next, run}
+use Rattle.rules.specs.Laws.{SoundBucket, SoundBuckets, SoundInputs, SoundSettings, SoundHistory, Lawful, Invariants, Saturation}
+use Rattle.rules.proofs.Tests.{if-case, by-test, clash, and-false, and-left, and-right, or-false, low, high, unrefused, zero-if}
 use Rattle.rules.proofs.Tables.{fresh-largest}
-use Rattle.rules.proofs.OneInput.{bucket-works, sound-measured, sound-unsoaked, sound-fresh}
-use Rattle.rules.proofs.SoundInputs.{sound-altered, sound-inputs}
+use Rattle.rules.proofs.OneInput.{works, sound-measured, sound-unsoaked, sound-fresh}
+use Rattle.rules.proofs.SoundBuckets.{sound-bucket, sound-set, sound-assigned, sound-start, start-bucket, sound-fresh-buckets, bucket-works}
+use Rattle.rules.proofs.SoundInputs.{sound-altered, sound-inputs, sound-after-set, sound-after-assign}
 use Rattle.rules.proofs.SoundLoop.{sound-loop, sound-unselected}
 use Rattle.rules.proofs.SoundHistory.{no-blocks, none-building, sound-emptied, sum-kept, sound-recorded, sound-commanded, last-recorded, last-commanded}
 
@@ -111,7 +113,8 @@ pub lawful-tick : (mask : ℕ) (lock : Bool) (x : ℤ) (s : State) → natAbs x 
 unfolding ticked step5 steps1to4
 lawful-tick mask lock x s small w =
     record {
-      inputs = sound-inputs mask lock s (w .inputs);
+      buckets = w .buckets;
+      inputs = sound-inputs mask lock s (w .buckets) (w .inputs);
       settings = w .settings;
       loop = sound-loop mask lock s w;
       history = sound-recorded _ _ _ x (s .history) small (w .history);
@@ -124,7 +127,8 @@ lawful-measurement : (i : ℕ) (x : ℤ) (s : State) → isInput i ≡ true → 
 unfolding afterMeasurement
 lawful-measurement i x s r w =
     record {
-      inputs = sound-altered _ i (s .inputs) (λ j. sound-measured (bucketOf j) bucket-works _ _ x) r (w .inputs);
+      buckets = w .buckets;
+      inputs = sound-altered (s .buckets) (w .buckets) _ i (s .inputs) (λ j input. sound-measured (bucketOf (s .buckets) j) (bucket-works (s .buckets) (w .buckets) j input) _ _ x) r (w .inputs);
       settings = w .settings;
       loop = w .loop;
       history = w .history;
@@ -137,7 +141,8 @@ lawful-hit : (s : State) → isTracked (selected s) ≡ true → Lawful s → La
 unfolding afterHit settled unselectedMode unselectedLoop modeNumber
 lawful-hit s r w =
     record {
-      inputs = sound-altered unsoaked (selected s) (s .inputs) (λ j. sound-unsoaked (bucketOf j) bucket-works) r (w .inputs);
+      buckets = w .buckets;
+      inputs = sound-altered (s .buckets) (w .buckets) unsoaked (selected s) (s .inputs) (λ j input. sound-unsoaked (bucketOf (s .buckets) j) (bucket-works (s .buckets) (w .buckets) j input)) r (w .inputs);
       settings = w .settings;
       loop = sound-unselected (unselectedMode (Ready s)) (if-case (λ (m : Mode). modeNumber m ≤ 1) (Ready s) (λ t. omega arith) (λ t. omega arith));
       history = sound-emptied (s .history) (w .history);
@@ -150,6 +155,7 @@ lawful-write : (a v : ℕ) (s : State) → WriteAllowed s a v → Lawful s → L
 unfolding afterWrite commandRefused largest register registers place
 lawful-write a v s ok w =
     record {
+      buckets = w .buckets;
       inputs = w .inputs;
       settings = if-case SoundSettings (eqb a 0x26) (λ e. w .settings) (λ e. sound-written s a v ok (w .settings));
       loop = w .loop;
@@ -165,14 +171,56 @@ lawful-write a v s ok w =
     allowed : eqb a 0x26 ≡ true → v ≡ 1 → Ready s ≡ true
     allowed e z = by-test (Ready s) (λ r. r) (λ r. clash {b = eqb a 0x26 && commandRefused (Ready s) (held (s .history .backup)) v} (rw (e, z, r) refl) (ok .command))
 
+-- a call whose sets and inputs are sound
+lawful-call : (bs : Buckets) (inputs : Inputs) (s : State) → SoundBuckets bs → SoundInputs bs inputs → Lawful s → Lawful (afterCall bs inputs s)
+unfolding afterCall
+lawful-call bs inputs s sets sound w =
+    record {
+      buckets = sets;
+      inputs = sound;
+      settings = w .settings;
+      loop = w .loop;
+      history = w .history;
+      last = w .last;
+      holding-le = w .holding-le;
+      holding-none = w .holding-none;
+    }
+
+lawful-set : (n size setLevel clearLevel d : ℕ) (s : State) → (isSetNumber n && inBounds size setLevel clearLevel d) ≡ true → Lawful s
+    → Lawful (afterSet n (bucketFrom size setLevel clearLevel d) s)
+unfolding afterSet
+lawful-set n size setLevel clearLevel d s ok w =
+    let known = leb-true n 3 (and-left (isSetNumber n) (inBounds size setLevel clearLevel d) ok) in
+    let sound = sound-bucket size setLevel clearLevel d (and-right (isSetNumber n) (inBounds size setLevel clearLevel d) ok) in
+    lawful-call _ _ s (sound-set n _ (s .buckets) known (w .buckets) sound) (sound-after-set (s .buckets) (s .inputs) (w .inputs) n _ known (w .buckets) sound) w
+
+lawful-assign : (i n : ℕ) (s : State) → isInput i ≡ true → isSetNumber n ≡ true → Lawful s → Lawful (afterAssign i n s)
+unfolding afterAssign
+lawful-assign i n s input ok w =
+    let known = leb-true n 3 ok in
+    lawful-call _ _ s (sound-assigned i n (s .buckets) input (w .buckets) known) (sound-after-assign (s .buckets) (s .inputs) (w .inputs) i n input known (w .buckets)) w
+
+-- what an accepted assignment has passed
+assign-allowed : (i n : ℕ) → assignRefusal i n ≡ 0 → (isInput i ≡ true) × (isSetNumber n ≡ true)
+unfolding assignRefusal
+assign-allowed i n e =
+    let first = unrefused (not (isInput i)) 5 _ e in
+    (not-false (isInput i) (first .0), zero-if (isSetNumber n) 13 (eq-eqb _ 0 (first .1)))
+
 pub lawful-next : (s : State) (e : Event) → Lawful s → Lawful (next s e)
-unfolding next effect refusal
+unfolding next effect refusal setRefusal
 lawful-next s (tick mask lock x) w =
     if-case Lawful (accepted s (tick mask lock x))
     (λ t. lawful-tick mask lock x s (leb-true (natAbs x) sampleLimit (zero-if (leb (natAbs x) sampleLimit) 6 t)) w) (λ t. w)
 lawful-next s (measurement i x) w = if-case Lawful (accepted s (measurement i x)) (λ t. lawful-measurement i x s (zero-if (isInput i) 5 t) w) (λ t. w)
 lawful-next s hit w = if-case Lawful (accepted s hit) (λ t. lawful-hit s (zero-if (isTracked (selected s)) 4 t) w) (λ t. w)
 lawful-next s (write a v) w = if-case Lawful (accepted s (write a v)) (λ t. lawful-write a v s (write-allowed s a v t) w) (λ t. w)
+lawful-next s (setBucket n size setLevel clearLevel d) w =
+    if-case Lawful (accepted s (setBucket n size setLevel clearLevel d))
+    (λ t. lawful-set n size setLevel clearLevel d s (zero-if (isSetNumber n && inBounds size setLevel clearLevel d) 13 t) w) (λ t. w)
+lawful-next s (assignBucket i n) w =
+    if-case Lawful (accepted s (assignBucket i n))
+    (λ t. let ok = assign-allowed i n (eqb-true (assignRefusal i n) 0 t) in lawful-assign i n s (ok .0) (ok .1) w) (λ t. w)
 
 pub lawful-run : (es : List Event) (s : State) → Lawful s → Lawful (run s es)
 unfolding run
@@ -186,7 +234,12 @@ pub lawful-from : (table : List ℕ) → SoundSettings (settingsFrom table) → 
 unfolding freshFrom freshHistory settled modeNumber
 lawful-from table w =
     record {
-      inputs = record { eight = refl; each = λ i r. rw (getD-replicate 8 (i - 1) freshInput freshInput (omega (arith, low 1 8 i r, high 1 8 i r))) (sound-fresh (bucketOf i) bucket-works) };
+      buckets = sound-fresh-buckets;
+      inputs =
+          record {
+            eight = refl;
+            each = λ i r. rw (start-bucket i, getD-replicate 8 (i - 1) freshInput freshInput (omega (arith, low 1 8 i r, high 1 8 i r))) (sound-fresh startBucket (works sound-start));
+          };
       settings = w;
       loop = sound-unselected freeRun (omega arith);
       history = record { kept = no-blocks; building = none-building false; open-lt = omega arith; open-within = omega arith; command-le = omega arith; backup = no-blocks; backup-full = inl refl };

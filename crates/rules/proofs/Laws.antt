@@ -9,6 +9,7 @@ use Rattle.rules.proofs.Invariants.{invariants, saturation}
 use Rattle.rules.proofs.Bytes.{bytes}
 use Rattle.rules.proofs.Digits.{decimal-digits}
 use Rattle.rules.proofs.Sheets.{outputs, output-kept}
+use Rattle.rules.proofs.Callless.{no-calls, untouched}
 use Rattle.rules.proofs.RecordBytes.{each-record}
 use Rattle.rules.proofs.Refusals.{refused, not-ready, twos-complement}
 
@@ -31,6 +32,8 @@ laws =
       refused = refused;
       map = map-places;
       bytes = bytes;
+      untouched = untouched;
+      noCalls = no-calls;
       outputs = outputs;
       outputKept = output-kept;
       eachRecord = each-record;

@@ -10,6 +10,7 @@ pub mod EightInputs
 pub mod OneInput
 pub mod Best
 pub mod Chosen
+pub mod SoundBuckets
 pub mod SoundInputs
 pub mod SoundLoop
 pub mod SoundHistory
@@ -20,6 +21,7 @@ pub mod Digits
 pub mod Parts
 pub mod Pages
 pub mod Sheets
+pub mod Callless
 pub mod RecordBytes
 pub mod Prints
 pub mod Printable

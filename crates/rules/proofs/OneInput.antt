@@ -3,12 +3,12 @@ use Prim.Native.Nat.{ℕ, zero, suc, _+_, _-_, _*_, _≤_, _<_, min}
 use mathlib.Core.Path.{_≡_, refl, ap}
 use mathlib.Core.Bool.{Bool, true, false}
 use native.Mathlib.Omega.{arith}
-use native.Mathlib.Nat.{one-le-mul, mul-le-mul-left, lt-of-mul-lt-mul-left}
+use native.Mathlib.Nat.{one-le-pow, one-le-mul, mul-le-mul-left, lt-of-mul-lt-mul-left}
 use lib.Dec.{leb}
 use lib.IntN.{ℤ, natAbs}
 use borrow.Author.Tests.{leb-true, leb-false, eq-eqb, le-leb, lt-leb, le-ltb}
-use Rattle.rules.specs.Monitors.{Bucket, bucket, levelAfter, decayAfter, alarmAfter, activityAfter, Input, good, fullSoak, soakAfter, monitored, qualified, unsoaked, alarmTicks, lockAlarmed, frequencyAfter, measured, freshInput}
-use Rattle.rules.specs.Laws.{SoundInput}
+use Rattle.rules.specs.Monitors.{Bucket, levelAfter, decayAfter, alarmAfter, activityAfter, Input, good, fullSoak, soakAfter, monitored, qualified, unsoaked, atSize, alarmTicks, lockAlarmed, frequencyAfter, measured, freshInput}
+use Rattle.rules.specs.Laws.{SoundBucket, SoundInput}
 use Rattle.rules.specs.Service.{settleTicks, qualifyTicks}
 use Rattle.rules.proofs.Tests.{if-case, by-test, clash}
 
@@ -18,24 +18,24 @@ pub record Working (b : Bucket) : Type 0 where
   pub sets : b .setLevel ≤ b .size
   pub decays : 1 ≤ b .decayTicks
 
-pub bucket-works : Working bucket
-unfolding bucket
-bucket-works = record { clears = omega arith; sets = omega arith; decays = omega arith }
+-- a set within its bounds works
+pub works : {b : Bucket} → SoundBucket b → Working b
+works s = record { clears = s .clears; sets = s .sets; decays = rw (s .decays .1 .1) (one-le-pow (s .decays .0) 2 (omega arith)) }
 
 -- ---- in every state
 
-module _ (b : Bucket) (works : Working b) where
-  level-bound : (irregular : Bool) (l d : ℕ) → l ≤ b .size → levelAfter b irregular l d ≤ b .size
+module _ (b : Bucket) (w : Working b) where
+  level-bound : (irregular : Bool) (l d : ℕ) → l ≤ b .size → levelAfter (b .size) (b .decayTicks) irregular l d ≤ b .size
   unfolding levelAfter
   level-bound irregular l d h =
       if-case (λ x. x ≤ b .size) irregular (λ e. omega arith)
       (λ e. if-case (λ x. x ≤ b .size) (leb (b .decayTicks) (d + 1)) (λ t. omega arith) (λ t. h))
 
-  decay-bound : (irregular : Bool) (d : ℕ) → decayAfter b irregular d < b .decayTicks
+  decay-bound : (irregular : Bool) (d : ℕ) → decayAfter (b .decayTicks) irregular d < b .decayTicks
   unfolding decayAfter
   decay-bound irregular d =
-      if-case (λ x. x < b .decayTicks) irregular (λ e. works .decays)
-      (λ e. if-case (λ x. x < b .decayTicks) (leb (b .decayTicks) (d + 1)) (λ t. works .decays) (λ t. leb-false (b .decayTicks) (d + 1) t))
+      if-case (λ x. x < b .decayTicks) irregular (λ e. w .decays)
+      (λ e. if-case (λ x. x < b .decayTicks) (leb (b .decayTicks) (d + 1)) (λ t. w .decays) (λ t. leb-false (b .decayTicks) (d + 1) t))
 
   soak-bound : (g : Bool) (n : ℕ) → soakAfter g n ≤ fullSoak
   unfolding soakAfter
@@ -64,9 +64,14 @@ module _ (b : Bucket) (works : Working b) where
   unfolding unsoaked
   sound-unsoaked i s = record { level-le = s .level-le; decay-lt = s .decay-lt; remainder-le = s .remainder-le; soak-le = omega arith }
 
+  -- put at its size: whatever it was, its remainder and soak are kept
+  pub sound-at-size : (i : Input) → i .remainder ≤ alarmTicks → i .soak ≤ fullSoak → SoundInput b (atSize (b .size) i)
+  unfolding atSize
+  sound-at-size i r s = record { level-le = omega arith; decay-lt = w .decays; remainder-le = r; soak-le = s }
+
   pub sound-fresh : SoundInput b freshInput
   unfolding freshInput
-  sound-fresh = record { level-le = omega arith; decay-lt = works .decays; remainder-le = omega arith; soak-le = omega arith }
+  sound-fresh = record { level-le = omega arith; decay-lt = w .decays; remainder-le = omega arith; soak-le = omega arith }
 
 -- ---- of an input that has behaved for k ticks
 
@@ -81,9 +86,9 @@ pub record Calm (b : Bucket) (k : ℕ) (i : Input) : Type 0 where
   pub released : i .remainder ≤ alarmTicks - k
   pub soaking : min k (qualifyTicks b) ≤ i .soak + (settleTicks b - 1)
 
-module _ (b : Bucket) (works : Working b) where
+module _ (b : Bucket) (w : Working b) where
   drain-some : 1 ≤ drainTicks b
-  drain-some = one-le-mul (omega (arith, works)) (works .decays)
+  drain-some = one-le-mul (omega (arith, w)) (w .decays)
 
   -- at the moment nothing is asked but a clear frequency alarm
   pub calm-start : (i : Input) → SoundInput b i → i .frequency ≡ false → Calm b 0 i
@@ -103,7 +108,7 @@ module _ (b : Bucket) (works : Working b) where
   fallen D l = ap (λ n. D * n) (omega arith)
 
   drained-tick : (k l d : ℕ) → d < b .decayTicks → b .decayTicks * l ≤ d + (b .decayTicks * b .size - k)
-      → b .decayTicks * levelAfter b false l d ≤ decayAfter b false d + (b .decayTicks * b .size - suc k)
+      → b .decayTicks * levelAfter (b .size) (b .decayTicks) false l d ≤ decayAfter (b .decayTicks) false d + (b .decayTicks * b .size - suc k)
   unfolding levelAfter decayAfter
   drained-tick k l d h q = by-test (leb (b .decayTicks) (d + 1)) (λ e. rw e (falls l q (leb-true (b .decayTicks) (d + 1) e))) (λ e. rw e (omega arith))
     where
@@ -118,14 +123,14 @@ module _ (b : Bucket) (works : Working b) where
       le-of-lt-suc (lt-of-mul-lt-mul-left (b .decayTicks) (omega (arith, parts)))
     where
       parts : b .decayTicks * b .size ≡ b .decayTicks * (b .clearLevel + (b .size - b .clearLevel))
-      parts = ap (λ n. b .decayTicks * n) (omega (arith, works))
+      parts = ap (λ n. b .decayTicks * n) (omega (arith, w))
 
       le-of-lt-suc : {m n : ℕ} → m < suc n → m ≤ n
       le-of-lt-suc x = omega arith
 
-  alarm-clear : (l : ℕ) (a : Bool) → l ≤ b .clearLevel → alarmAfter b l a ≡ false
+  alarm-clear : (l : ℕ) (a : Bool) → l ≤ b .clearLevel → alarmAfter (b .setLevel) (b .clearLevel) l a ≡ false
   unfolding alarmAfter
-  alarm-clear l a h = rw (lt-leb (b .setLevel) l (omega (arith, works)), le-leb l (b .clearLevel) h) refl
+  alarm-clear l a h = rw (lt-leb (b .setLevel) l (omega (arith, w)), le-leb l (b .clearLevel) h) refl
 
   good-is : (a f : Bool) (r : ℕ) → a ≡ false → f ≡ false → r ≡ 0 → good a f r ≡ true
   unfolding good
@@ -152,23 +157,23 @@ module _ (b : Bucket) (works : Working b) where
       }
     where
       l : ℕ
-      l = levelAfter b false (i .activity .level) (i .activity .decay)
+      l = levelAfter (b .size) (b .decayTicks) false (i .activity .level) (i .activity .decay)
 
       d : ℕ
-      d = decayAfter b false (i .activity .decay)
+      d = decayAfter (b .decayTicks) false (i .activity .decay)
 
       isGood : Bool
-      isGood = good (alarmAfter b l (i .activity .alarm)) (i .frequency) (i .remainder - 1)
+      isGood = good (alarmAfter (b .setLevel) (b .clearLevel) l (i .activity .alarm)) (i .frequency) (i .remainder - 1)
 
       drained : b .decayTicks * l ≤ d + (b .decayTicks * b .size - suc k)
       drained = drained-tick k (i .activity .level) (i .activity .decay) (s .decay-lt) (c .drained)
 
-      quiet : drainTicks b ≤ suc k → alarmAfter b l (i .activity .alarm) ≡ false
-      quiet h = alarm-clear l (i .activity .alarm) (low-level (suc k) l d (decay-bound b works false (i .activity .decay)) drained h)
+      quiet : drainTicks b ≤ suc k → alarmAfter (b .setLevel) (b .clearLevel) l (i .activity .alarm) ≡ false
+      quiet h = alarm-clear l (i .activity .alarm) (low-level (suc k) l d (decay-bound b w false (i .activity .decay)) drained h)
 
       settled : leb (settleTicks b) (suc k) ≡ true → isGood ≡ true
       settled t =
-          good-is (alarmAfter b l (i .activity .alarm)) (i .frequency) (i .remainder - 1)
+          good-is (alarmAfter (b .setLevel) (b .clearLevel) l (i .activity .alarm)) (i .frequency) (i .remainder - 1)
           (quiet (omega (arith, leb-true (settleTicks b) (suc k) t))) (c .clear)
           (omega (arith, leb-true (settleTicks b) (suc k) t, c .released))
 

@@ -10,22 +10,24 @@ use lib.IntN.{ℤ, natAbs, _+ℤ_}
 use lib.ListN.{length}
 use borrow.Author.Tests.{eqb-true, eqb-false, leb-true, leb-false, ltb-true, ltb-false, eq-eqb, ne-eqb}
 use Rattle.rules.specs.Words.{if_then_else_, bitOf, isInput, isTracked, isCounted}
-use Rattle.rules.specs.Events.{Event, tick, measurement, hit, write, isTick}
-use Rattle.rules.specs.Monitors.{bucketOf, Input, monitored, measured, unsoaked, lockAlarmed, qualified}
+use Rattle.rules.specs.Events.{Event, tick, measurement, hit, write, setBucket, assignBucket, isTick}
+use Rattle.rules.specs.Monitors.{Bucket, Input, monitored, measured, unsoaked, lockAlarmed, qualified}
 use Rattle.rules.specs.Pll.{locked, is, modeNumber, Loop, lockTicks, looped, alarmDue}
 use Rattle.rules.specs.Settings.{Settings, policy, automatic, reject, qualification, priority, usable, revertive, ahead, reversion, opMode}
 use Rattle.rules.specs.Selection.{Inputs, input, altered, Choice, available, candidate, settled, waitLimit, reselected, chosen, modeAfter, steered}
+use Rattle.rules.specs.Buckets.{bucketOf}
 use Rattle.rules.specs.History.{History, blockSamples, readyBlocks, refilled, saturated, filling, completed, sampled, withLast, noted, recorded}
 use Rattle.rules.specs.State.{State, selected, mode, Ready}
-use Rattle.rules.specs.Tick.{watched, loopAfter, inputsAfter, steps1to4, step5, ticked}
+use Rattle.rules.specs.Tick.{watched, watchedAfter, loopAfter, inputsAfter, steps1to4, step5, ticked}
 use Rattle.rules.specs.Refusals.{refusal, accepted}
 use Rattle.rules.specs.Run.{afterMeasurement, afterHit, effect, next, run}
-use Rattle.rules.specs.Laws.{SoundInputs, Lawful}
+use Rattle.rules.specs.Laws.{SoundBuckets, SoundInputs, Lawful}
 use Rattle.rules.specs.Preference.{AheadOfInput, AheadOfFreeRun, Revertive, Preferred}
 use Rattle.rules.specs.Service.{Fair, AllFair, qualifyTicks, acceptedTicks}
 use Rattle.rules.proofs.Tests.{if-case, by-test, clash, and-false, and-left, and-right, low, high, zero-if}
 use Rattle.rules.proofs.EightInputs.{input-each, input-altered-other, input-altered-same}
-use Rattle.rules.proofs.OneInput.{bucket-works, Calm, calm-tick, calm-qualified, calm-measured}
+use Rattle.rules.proofs.OneInput.{Calm, calm-tick, calm-qualified, calm-measured}
+use Rattle.rules.proofs.SoundBuckets.{bucket-works}
 use Rattle.rules.proofs.Best.{ahead-is, candidate-usable, best-is}
 use Rattle.rules.proofs.Chosen.{Waits, reselected-cases, wait-one, wait-more}
 use Rattle.rules.proofs.Blocks.{joined, joined-length, completed-fills, completed-replaces, completed-ready}
@@ -169,14 +171,16 @@ pub data Phase (q n r k : ℕ) (c : Choice) (p : Loop) (h : History) : Type 0 wh
   serves : q ≤ k → c .selected ≡ r → Serving (k - (q + n)) p h → Phase q n r k c p h
 
 abbrev pub phaseOf : ℕ → ℕ → ℕ → State → Type 0
-phaseOf n r k s = Phase (qualifyTicks (bucketOf r)) n r k (s .choice) (s .loop) (s .history)
+phaseOf n r k s = Phase (qualifyTicks (bucketOf (s .buckets) r)) n r k (s .choice) (s .loop) (s .history)
 
-pub record Going (n r k : ℕ) (s : State) : Type 0 where
+-- b is r's bucket at the moment
+pub record Going (b : Bucket) (n r k : ℕ) (s : State) : Type 0 where
   pub auto : automatic (s .settings) ≡ true
   pub prefer : Leading r (s .settings)
   pub wait-is : reversion (s .settings) ≡ n
   pub lawful : Lawful s
-  pub calm : Calm (bucketOf r) k (input (s .inputs) r)
+  pub bucket-is : bucketOf (s .buckets) r ≡ b
+  pub calm : Calm (bucketOf (s .buckets) r) k (input (s .inputs) r)
   pub phase : phaseOf n r k s
 
 -- r's availability makes it the best, and the choice is made at r
@@ -199,20 +203,20 @@ no-alarm : (lock : Bool) (s : State) → isTracked (selected s) ≡ true → loc
 unfolding loopAfter looped alarmDue
 no-alarm lock s t e = rw (t, e) refl
 
-calm-inputs : (k mask r : ℕ) (lock : Bool) (s : State) → isInput r ≡ true → SoundInputs (s .inputs) → Calm (bucketOf r) k (input (s .inputs) r)
-    → bitOf mask r ≡ false → (selected s ≡ r → lock ≡ true) → Calm (bucketOf r) (suc k) (input (inputsAfter mask lock s) r)
-unfolding inputsAfter watched
-calm-inputs k mask r lock s ref w c reg locks =
-    if-case (λ (l : Inputs). Calm (bucketOf r) (suc k) (input l r)) (isTracked (selected s) && alarmDue (loopAfter lock s)) alarm (λ t. now)
+calm-inputs : (k mask r : ℕ) (lock : Bool) (s : State) → isInput r ≡ true → SoundBuckets (s .buckets) → SoundInputs (s .buckets) (s .inputs) → Calm (bucketOf (s .buckets) r) k (input (s .inputs) r)
+    → bitOf mask r ≡ false → (selected s ≡ r → lock ≡ true) → Calm (bucketOf (s .buckets) r) (suc k) (input (inputsAfter mask lock s) r)
+unfolding inputsAfter watchedAfter watched
+calm-inputs k mask r lock s ref sets w c reg locks =
+    if-case (λ (l : Inputs). Calm (bucketOf (s .buckets) r) (suc k) (input l r)) (isTracked (selected s) && alarmDue (loopAfter lock s)) alarm (λ t. now)
   where
-    now : Calm (bucketOf r) (suc k) (input (watched mask (s .inputs)) r)
+    now : Calm (bucketOf (s .buckets) r) (suc k) (input (watchedAfter mask s) r)
     now =
-        rw (input-each (λ i. monitored (bucketOf i) (bitOf mask i)) r (s .inputs) (low 1 8 r ref) (omega (arith, w .eight, high 1 8 r ref)), reg)
-        (calm-tick (bucketOf r) bucket-works k (input (s .inputs) r) (w .each r ref) c)
+        rw (input-each (λ i. monitored (bucketOf (s .buckets) i) (bitOf mask i)) r (s .inputs) (low 1 8 r ref) (omega (arith, w .eight, high 1 8 r ref)), reg)
+        (calm-tick (bucketOf (s .buckets) r) (bucket-works (s .buckets) sets r ref) k (input (s .inputs) r) (w .each r ref) c)
 
-    alarm : (isTracked (selected s) && alarmDue (loopAfter lock s)) ≡ true → Calm (bucketOf r) (suc k) (input (altered lockAlarmed (selected s) (watched mask (s .inputs))) r)
+    alarm : (isTracked (selected s) && alarmDue (loopAfter lock s)) ≡ true → Calm (bucketOf (s .buckets) r) (suc k) (input (altered lockAlarmed (selected s) (watchedAfter mask s)) r)
     alarm t =
-        rw (input-altered-other lockAlarmed (selected s) r (watched mask (s .inputs)) (low 1 8 (selected s) tracked) (low 1 8 r ref)
+        rw (input-altered-other lockAlarmed (selected s) r (watchedAfter mask s) (low 1 8 (selected s) tracked) (low 1 8 r ref)
         (λ e. clash (and-right (isTracked (selected s)) (alarmDue (loopAfter lock s)) t) (no-alarm lock s tracked (locks e)))) now
       where
         tracked : isTracked (selected s) ≡ true
@@ -231,14 +235,14 @@ module _ (q n r k : ℕ) (c d : Choice) (p : Loop) (h : History) (short : c .wai
       waits (omega arith) (omega (arith, z .0, wait-more r c short (z .1), w .within))
       (inr (omega (arith, z .0, w .counts, wait-more r c short (z .1)), w .for))
 
-going-tick : (n r k mask : ℕ) (lock : Bool) (x : ℤ) (s : State) → isInput r ≡ true → Going n r k s → Lawful (ticked mask lock x s)
-    → bitOf mask r ≡ false → (selected s ≡ r → lock ≡ true) → Going n r (suc k) (ticked mask lock x s)
+going-tick : (b : Bucket) (n r k mask : ℕ) (lock : Bool) (x : ℤ) (s : State) → isInput r ≡ true → Going b n r k s → Lawful (ticked mask lock x s)
+    → bitOf mask r ≡ false → (selected s ≡ r → lock ≡ true) → Going b n r (suc k) (ticked mask lock x s)
 unfolding ticked step5 steps1to4 loopAfter
-going-tick n r k mask lock x s ref g after reg locks =
-    record { auto = g .auto; prefer = g .prefer; wait-is = g .wait-is; lawful = after; calm = calm-after; phase = go (g .phase) }
+going-tick b n r k mask lock x s ref g after reg locks =
+    record { auto = g .auto; prefer = g .prefer; wait-is = g .wait-is; lawful = after; bucket-is = g .bucket-is; calm = calm-after; phase = go (g .phase) }
   where
     Q : ℕ
-    Q = qualifyTicks (bucketOf r)
+    Q = qualifyTicks (bucketOf (s .buckets) r)
 
     I : Inputs
     I = inputsAfter mask lock s
@@ -252,13 +256,13 @@ going-tick n r k mask lock x s ref g after reg locks =
     H : History
     H = ticked mask lock x s .history
 
-    calm-after : Calm (bucketOf r) (suc k) (input I r)
-    calm-after = calm-inputs k mask r lock s ref (g .lawful .inputs) (g .calm) reg locks
+    calm-after : Calm (bucketOf (s .buckets) r) (suc k) (input I r)
+    calm-after = calm-inputs k mask r lock s ref (g .lawful .buckets) (g .lawful .inputs) (g .calm) reg locks
 
     choice-made : Q ≤ suc k → (D .selected ≡ r) ⊎ Waits n r (s .choice) D
     choice-made h =
         subst (λ m. (D .selected ≡ r) ⊎ Waits m r (s .choice) D) (g .wait-is)
-        (chosen-cases (s .settings) I r ref (g .auto) (g .prefer) (calm-qualified (bucketOf r) bucket-works (suc k) (input I r) (after .inputs .each r ref) calm-after h) (s .choice))
+        (chosen-cases (s .settings) I r ref (g .auto) (g .prefer) (calm-qualified (bucketOf (s .buckets) r) (bucket-works (s .buckets) (g .lawful .buckets) r ref) (suc k) (input I r) (after .inputs .each r ref) calm-after h) (s .choice))
 
     -- r was selected, and stays so
     serve : Q ≤ k → selected s ≡ r → Serving (k - (Q + n)) (s .loop) (s .history) → (D .selected ≡ r) ⊎ Waits n r (s .choice) D → Phase Q n r (suc k) D L H
@@ -283,33 +287,34 @@ going-tick n r k mask lock x s ref g after reg locks =
 
 -- ---- the other events
 
-going-measurement : (n r k i : ℕ) (x : ℤ) (s : State) → isInput r ≡ true → isInput i ≡ true → Going n r k s → Lawful (afterMeasurement i x s)
-    → (i ≡ r → natAbs x ≤ qualification (s .settings)) → Going n r k (afterMeasurement i x s)
+going-measurement : (b : Bucket) (n r k i : ℕ) (x : ℤ) (s : State) → isInput r ≡ true → isInput i ≡ true → Going b n r k s → Lawful (afterMeasurement i x s)
+    → (i ≡ r → natAbs x ≤ qualification (s .settings)) → Going b n r k (afterMeasurement i x s)
 unfolding afterMeasurement
-going-measurement n r k i x s ref ri g after small =
-    record { auto = g .auto; prefer = g .prefer; wait-is = g .wait-is; lawful = after; calm = by-test (eqb i r) same other-input; phase = g .phase }
+going-measurement b n r k i x s ref ri g after small =
+    record { auto = g .auto; prefer = g .prefer; wait-is = g .wait-is; lawful = after; bucket-is = g .bucket-is; calm = by-test (eqb i r) same other-input; phase = g .phase }
   where
     f : Input → Input
     f = measured (reject (s .settings)) (qualification (s .settings)) x
 
-    same : eqb i r ≡ true → Calm (bucketOf r) k (input (altered f i (s .inputs)) r)
+    same : eqb i r ≡ true → Calm (bucketOf (s .buckets) r) k (input (altered f i (s .inputs)) r)
     same e =
         rw (eqb-true i r e, input-altered-same f r (s .inputs) (low 1 8 r ref) (omega (arith, g .lawful .inputs .eight, high 1 8 r ref)))
-        (calm-measured (bucketOf r) bucket-works k (reject (s .settings)) (qualification (s .settings)) x (input (s .inputs) r)
+        (calm-measured (bucketOf (s .buckets) r) (bucket-works (s .buckets) (g .lawful .buckets) r ref) k (reject (s .settings)) (qualification (s .settings)) x (input (s .inputs) r)
         (omega (arith, g .lawful .settings .apart)) (small (eqb-true i r e)) (g .calm))
 
-    other-input : eqb i r ≡ false → Calm (bucketOf r) k (input (altered f i (s .inputs)) r)
+    other-input : eqb i r ≡ false → Calm (bucketOf (s .buckets) r) k (input (altered f i (s .inputs)) r)
     other-input e = rw (input-altered-other f i r (s .inputs) (low 1 8 i ri) (low 1 8 r ref) (eqb-false i r e)) (g .calm)
 
-going-hit : (n r k : ℕ) (s : State) → isInput r ≡ true → isTracked (selected s) ≡ true → Going n r k s → Lawful (afterHit s)
-    → (selected s ≡ r → ⊥) → Going n r k (afterHit s)
+going-hit : (b : Bucket) (n r k : ℕ) (s : State) → isInput r ≡ true → isTracked (selected s) ≡ true → Going b n r k s → Lawful (afterHit s)
+    → (selected s ≡ r → ⊥) → Going b n r k (afterHit s)
 unfolding afterHit settled
-going-hit n r k s ref rs g after ne =
+going-hit b n r k s ref rs g after ne =
     record {
       auto = g .auto;
       prefer = g .prefer;
       wait-is = g .wait-is;
       lawful = after;
+      bucket-is = g .bucket-is;
       calm = rw (input-altered-other unsoaked (selected s) r (s .inputs) (low 1 8 (selected s) rs) (low 1 8 r ref) ne) (g .calm);
       phase = go (g .phase);
     }
@@ -321,36 +326,38 @@ going-hit n r k s ref rs g after ne =
 
 -- ---- a fair event, and a list of them
 
-module _ (n r : ℕ) (ref : isInput r ≡ true) where
-  still : (k : ℕ) (s : State) → Going n r k s → Going n r (0 + k) s
-  still k s g = subst (λ (m : ℕ). Going n r m s) (omega arith) g
+module _ (b : Bucket) (n r : ℕ) (ref : isInput r ≡ true) where
+  still : (k : ℕ) (s : State) → Going b n r k s → Going b n r (0 + k) s
+  still k s g = subst (λ (m : ℕ). Going b n r m s) (omega arith) g
 
   -- an event that is no tick, accepted or not
-  other-event : (k : ℕ) (b : Bool) (s t : State) → (b ≡ true → Lawful t → Going n r k t) → Going n r k s
-      → Lawful (if b then t else s) → Going n r (0 + k) (if b then t else s)
+  other-event : (k : ℕ) (y : Bool) (s t : State) → (y ≡ true → Lawful t → Going b n r k t) → Going b n r k s
+      → Lawful (if y then t else s) → Going b n r (0 + k) (if y then t else s)
   other-event k true s t f g after = still k t (f refl after)
   other-event k false s t f g after = still k s g
 
-  going-next : (k : ℕ) (s : State) (e : Event) → Fair r s e → Going n r k s → Lawful (next s e)
-      → Going n r ((if isTick e && accepted s e then 1 else 0) + k) (next s e)
+  going-next : (k : ℕ) (s : State) (e : Event) → Fair r s e → Going b n r k s → Lawful (next s e)
+      → Going b n r ((if isTick e && accepted s e then 1 else 0) + k) (next s e)
   unfolding next effect refusal
   going-next k s (tick mask lock x) fair g = go (accepted s (tick mask lock x)) refl
     where
-      go : (b : Bool) → accepted s (tick mask lock x) ≡ b → Lawful (if b then ticked mask lock x s else s)
-          → Going n r ((if b then 1 else 0) + k) (if b then ticked mask lock x s else s)
+      go : (y : Bool) → accepted s (tick mask lock x) ≡ y → Lawful (if y then ticked mask lock x s else s)
+          → Going b n r ((if y then 1 else 0) + k) (if y then ticked mask lock x s else s)
       go true e after =
-          subst (λ (m : ℕ). Going n r m (ticked mask lock x s)) (omega arith) (going-tick n r k mask lock x s ref g after (fair e .0) (fair e .1))
+          subst (λ (m : ℕ). Going b n r m (ticked mask lock x s)) (omega arith) (going-tick b n r k mask lock x s ref g after (fair e .0) (fair e .1))
       go false e after = still k s g
   going-next k s (measurement i x) fair g =
       other-event k (accepted s (measurement i x)) s (afterMeasurement i x s)
-      (λ e after. going-measurement n r k i x s ref (zero-if (isInput i) 5 e) g after fair) g
+      (λ e after. going-measurement b n r k i x s ref (zero-if (isInput i) 5 e) g after fair) g
   going-next k s hit fair g =
-      other-event k (accepted s hit) s (afterHit s) (λ e after. going-hit n r k s ref (zero-if (isTracked (selected s)) 4 e) g after fair) g
+      other-event k (accepted s hit) s (afterHit s) (λ e after. going-hit b n r k s ref (zero-if (isTracked (selected s)) 4 e) g after fair) g
   going-next k s (write a v) fair g = λ after. rw fair (still k s g)
+  going-next k s (setBucket m size setLevel clearLevel d) fair g = λ after. rw fair (still k s g)
+  going-next k s (assignBucket i m) fair g = λ after. rw fair (still k s g)
 
-  pub going-run : (es : List Event) (k : ℕ) (s : State) → AllFair r s es → Going n r k s → Going n r (acceptedTicks s es + k) (run s es)
+  pub going-run : (es : List Event) (k : ℕ) (s : State) → AllFair r s es → Going b n r k s → Going b n r (acceptedTicks s es + k) (run s es)
   unfolding run acceptedTicks
   going-run [] k s fair g = still k s g
   going-run (e ∷ es) k s fair g =
-      subst (λ (m : ℕ). Going n r m (run (next s e) es)) (omega arith)
+      subst (λ (m : ℕ). Going b n r m (run (next s e) es)) (omega arith)
       (going-run es ((if isTick e && accepted s e then 1 else 0) + k) (next s e) (fair .1) (going-next k s e (fair .0) g (lawful-next s e (g .lawful))))

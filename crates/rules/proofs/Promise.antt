@@ -1,6 +1,6 @@
 -- Demand 3 of the rules: the promise of service, proved.
 use Prim.Native.Nat.{ℕ, _+_, _-_, _≤_}
-use mathlib.Core.Path.{_≡_, refl}
+use mathlib.Core.Path.{_≡_, refl, ap, _∙_}
 use mathlib.Core.Logic.{inl, inr}
 use mathlib.Core.Bool.{true}
 use mathlib.Core.List.{List, [], _∷_, _++_}
@@ -9,17 +9,19 @@ use lib.ListN.{length}
 use borrow.Author.Tests.{le-leb, eq-eqb}
 use Rattle.rules.specs.Words.{isInput}
 use Rattle.rules.specs.Events.{Event}
-use Rattle.rules.specs.Monitors.{bucket, bucketOf}
+use Rattle.rules.specs.Monitors.{Bucket}
 use Rattle.rules.specs.Settings.{delay, reversion}
 use Rattle.rules.specs.Selection.{input}
+use Rattle.rules.specs.Buckets.{bucketFrom, startBucket, bucketOf}
 use Rattle.rules.specs.History.{readyBlocks, ready}
 use Rattle.rules.specs.State.{State, selected, Ready}
 use Rattle.rules.specs.Registers.{fresh}
 use Rattle.rules.specs.Run.{next, run}
 use Rattle.rules.specs.Laws.{Lawful}
-use Rattle.rules.specs.Service.{Provisos, qualifyTicks, fillTicks, selectedTicks, readyTicks, Numbers, acceptedTicks, Served, Promise, PromiseInFigures}
+use Rattle.rules.specs.Service.{Provisos, qualifyTicks, fillTicks, selectedTicks, readyTicks, Numbers, acceptedTicks, Served, Promise, PromiseInFigures, PromiseAtStart}
 use Rattle.rules.proofs.Tests.{is-between}
-use Rattle.rules.proofs.OneInput.{bucket-works, calm-start}
+use Rattle.rules.proofs.OneInput.{calm-start}
+use Rattle.rules.proofs.SoundBuckets.{bucket-works}
 use Rattle.rules.proofs.Blocks.{filled-ready}
 use Rattle.rules.proofs.Invariants.{invariants}
 use Rattle.rules.proofs.Counts.{least-delay}
@@ -37,34 +39,38 @@ ticks-append [] later s = omega arith
 ticks-append (e ∷ es) later s = omega (arith, ticks-append es later (next s e))
 
 pub numbers : Numbers
-unfolding bucket
-numbers = record { qualify = refl; fill = refl }
+unfolding bucketFrom startBucket
+numbers = record { qualify = λ size setLevel clearLevel d. refl; start = refl; fill = refl }
 
 -- at the deadlines
-module _ (n r k : ℕ) (s : State) (g : Going n r k s) where
-  selected-at : qualifyTicks (bucketOf r) + n ≤ k → selected s ≡ r
+module _ (b : Bucket) (n r k : ℕ) (s : State) (g : Going b n r k s) where
+  -- r's bucket is that of the moment
+  same : qualifyTicks (bucketOf (s .buckets) r) ≡ qualifyTicks b
+  same = ap qualifyTicks (g .bucket-is)
+
+  selected-at : qualifyTicks b + n ≤ k → selected s ≡ r
   selected-at h = go (g .phase)
     where
       go : phaseOf n r k s → selected s ≡ r
-      go (early l) = omega arith
-      go (waits lo hi u) = omega arith
+      go (early l) = omega (arith, same)
+      go (waits lo hi u) = omega (arith, same)
       go (serves lo e sv) = e
 
-  ready-at : qualifyTicks (bucketOf r) + n + fillTicks ≤ k → Ready s ≡ true
+  ready-at : qualifyTicks b + n + fillTicks ≤ k → Ready s ≡ true
   unfolding ready
   ready-at h = le-leb readyBlocks (length (s .history .kept)) (go (g .phase))
     where
-      full : Filled (k - (qualifyTicks (bucketOf r) + n)) (s .history) → readyBlocks ≤ length (s .history .kept)
-      full (inl l) = filled-ready (s .history) (g .lawful .history .building) (omega (arith, g .lawful .history .open-lt))
+      full : Filled (k - (qualifyTicks (bucketOf (s .buckets) r) + n)) (s .history) → readyBlocks ≤ length (s .history .kept)
+      full (inl l) = filled-ready (s .history) (g .lawful .history .building) (omega (arith, same, g .lawful .history .open-lt))
       full (inr l) = l
 
-      far : Serving (k - (qualifyTicks (bucketOf r) + n)) (s .loop) (s .history) → readyBlocks ≤ length (s .history .kept)
-      far (inl w) = omega (arith, w .1)
+      far : Serving (k - (qualifyTicks (bucketOf (s .buckets) r) + n)) (s .loop) (s .history) → readyBlocks ≤ length (s .history .kept)
+      far (inl w) = omega (arith, same, w .1)
       far (inr w) = full (w .1)
 
       go : phaseOf n r k s → readyBlocks ≤ length (s .history .kept)
-      go (early l) = omega arith
-      go (waits lo hi u) = omega arith
+      go (early l) = omega (arith, same)
+      go (waits lo hi u) = omega (arith, same)
       go (serves lo e sv) = far sv
 
 -- from any lawful state at the moment
@@ -72,7 +78,7 @@ served-from : (s : State) (after later : List Event) (r : ℕ)
     → Lawful s → Provisos r s (after ++ later)
     → Served (selectedTicks r s) (readyTicks r s) r s after (run s (after ++ later))
 served-from s after later r w p =
-    record { selected-is = λ h. selected-at n r K now going (omega (arith, more)); ready-is = λ h. ready-at n r K now going (omega (arith, more)) }
+    record { selected-is = λ h. selected-at b n r K now going (omega (arith, more)); ready-is = λ h. ready-at b n r K now going (omega (arith, more)) }
   where
     n : ℕ
     n = reversion (s .settings)
@@ -89,19 +95,23 @@ served-from s after later r w p =
     ref : isInput r ≡ true
     ref = is-between 1 8 r (p .low) (p .high)
 
-    start : Going n r 0 s
+    b : Bucket
+    b = bucketOf (s .buckets) r
+
+    start : Going b n r 0 s
     start =
         record {
           auto = eq-eqb (s .settings 0x40) 1 (p .automatic);
           prefer = leading r (s .settings) ref (p .preferred);
           wait-is = refl;
           lawful = w;
-          calm = calm-start (bucketOf r) bucket-works (input (s .inputs) r) (w .inputs .each r ref) (p .clear);
+          bucket-is = refl;
+          calm = calm-start b (bucket-works (s .buckets) (w .buckets) r ref) (input (s .inputs) r) (w .inputs .each r ref) (p .clear);
           phase = early (omega arith);
         }
 
-    going : Going n r K now
-    going = going-run n r ref (after ++ later) 0 s (p .fair) start
+    going : Going b n r K now
+    going = going-run b n r ref (after ++ later) 0 s (p .fair) start
 
 -- THE PROMISE OF SERVICE
 pub promise : Promise
@@ -110,10 +120,18 @@ promise before after later r p =
 
 -- THE PROMISE IN FIGURES
 pub promise-in-figures : PromiseInFigures
-promise-in-figures before after later r n d p =
+promise-in-figures before after later r n size setLevel clearLevel d is delayed p =
     let served = promise before after later r p in
-    let is = least-delay (delay (run fresh before .settings)) n d in
+    let ticks = ap qualifyTicks is ∙ numbers .qualify size setLevel clearLevel d in
+    let least = least-delay (delay (run fresh before .settings)) n delayed in
     record {
-      selected-is = λ h. served .selected-is (omega (arith, numbers .qualify));
-      ready-is = λ h. served .ready-is (omega (arith, numbers .qualify, numbers .fill));
+      selected-is = λ h. served .selected-is (omega (arith, ticks, least));
+      ready-is = λ h. served .ready-is (omega (arith, ticks, least, numbers .fill));
     }
+
+-- AND WITH THE SETS AS THEY START
+pub promise-at-start : PromiseAtStart
+unfolding startBucket
+promise-at-start before after later r n is delayed p =
+    let served = promise-in-figures before after later r n 8 6 4 1 is delayed p in
+    record { selected-is = served .selected-is; ready-is = λ h. served .ready-is (omega arith) }

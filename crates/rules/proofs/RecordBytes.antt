@@ -1,7 +1,7 @@
 -- What the bytes of a record can be.
 use Prim.Native.Nat.{ℕ, zero, suc, _*_, _≤_, _<_}
 use mathlib.Core.Path.{_≡_, ap}
-use mathlib.Core.Bool.{not, _&&_}
+use mathlib.Core.Bool.{false, not, _&&_, true≢false}
 use mathlib.Core.List.{List, [], _∷_, _++_}
 use native.Mathlib.Omega.{arith}
 use lib.Dec.{leb, ltb, eqb}
@@ -9,36 +9,39 @@ use lib.IntN.{natAbs}
 use lib.ListN.{length, drop}
 use borrow.Author.Tests.{eq-eqb}
 use Rattle.rules.specs.Words.{isInput, isTracked}
-use Rattle.rules.specs.Events.{Event, tick, measurement, hit, write, sampleLimit}
+use Rattle.rules.specs.Events.{Event, tick, measurement, hit, write, setBucket, assignBucket, isCall, sampleLimit}
 use Rattle.rules.specs.State.{State, selected, Ready}
 use Rattle.rules.specs.History.{held}
 use Rattle.rules.specs.Registers.{inMap, readOnly, largest, fresh}
 use Rattle.rules.specs.Refusals.{limitsRefused, commandRefused, writeRefusal, refusal}
 use Rattle.rules.specs.Run.{next, outcome}
 use Rattle.rules.specs.Sheet.{check, recordOf, records, sheetEvents, front}
-use Rattle.rules.specs.Laws.{RecordBytes, EachRecord}
+use Rattle.rules.specs.Laws.{Callless, RecordBytes, EachRecord}
 use Rattle.rules.proofs.Tests.{if-le}
 use Rattle.rules.proofs.Bytes.{state-digit, status-bits}
 use Rattle.rules.proofs.Sheets.{record-is, length-run}
+use Rattle.rules.proofs.Callless.{no-calls}
 
--- the numbers of events are 1 to 8
-refusal-le : (s : State) (e : Event) → refusal s e ≤ 8
+-- the numbers of events that are no calls are 1 to 8
+refusal-le : (s : State) (e : Event) → isCall e ≡ false → refusal s e ≤ 8
 unfolding refusal writeRefusal
-refusal-le s (tick mask lock x) = if-le (leb (natAbs x) sampleLimit) (omega arith) (omega arith)
-refusal-le s (measurement i offset) = if-le (isInput i) (omega arith) (omega arith)
-refusal-le s hit = if-le (isTracked (selected s)) (omega arith) (omega arith)
-refusal-le s (write a v) =
+refusal-le s (tick mask lock x) p = if-le (leb (natAbs x) sampleLimit) (omega arith) (omega arith)
+refusal-le s (measurement i offset) p = if-le (isInput i) (omega arith) (omega arith)
+refusal-le s hit p = if-le (isTracked (selected s)) (omega arith) (omega arith)
+refusal-le s (write a v) p =
     if-le (not (inMap a)) (omega arith)
     (if-le (readOnly a) (omega arith)
     (if-le (ltb (largest a) v) (omega arith)
     (if-le (limitsRefused (s .settings) a v) (omega arith)
     (if-le (eqb a 0x26 && commandRefused (Ready s) (held (s .history .backup)) v) (omega arith) (omega arith)))))
+refusal-le s (setBucket n size setLevel clearLevel d) p = absurd (true≢false p)
+refusal-le s (assignBucket i n) p = absurd (true≢false p)
 
-first-bytes : (s : State) (e : Event) (rest : List ℕ) → RecordBytes (recordOf (outcome s e) ++ rest)
+first-bytes : (s : State) (e : Event) (rest : List ℕ) → isCall e ≡ false → RecordBytes (recordOf (outcome s e) ++ rest)
 unfolding outcome
-first-bytes s e rest =
+first-bytes s e rest p =
     rw (record-is (refusal s e) (next s e))
-    (record { refusal-le = refusal-le s e; state-le = state-digit (next s e); status-lt = status-bits (next s e) })
+    (record { refusal-le = refusal-le s e p; state-le = state-digit (next s e); status-lt = status-bits (next s e) })
 
 -- the records after the first
 past-first : (s : State) (e : Event) (es : List Event) (i : ℕ) → drop (4 * suc i) (records s (e ∷ es)) ≡ drop (4 * i) (records (outcome s e .state) es)
@@ -47,12 +50,12 @@ past-first s e es i =
     let four : 4 * suc i ≡ suc (suc (suc (suc (4 * i)))) = omega arith in
     ap (λ n. drop n (records s (e ∷ es))) four
 
-bytes-at : (s : State) (es : List Event) (i : ℕ) → i < length es → RecordBytes (drop (4 * i) (records s es))
+bytes-at : (s : State) (es : List Event) (i : ℕ) → Callless es → i < length es → RecordBytes (drop (4 * i) (records s es))
 unfolding records
-bytes-at s [] i h = absurd (omega arith)
-bytes-at s (e ∷ es) zero h = first-bytes s e (records (outcome s e .state) es)
-bytes-at s (e ∷ es) (suc i) h = rw (past-first s e es i) (bytes-at (outcome s e .state) es i (omega arith))
+bytes-at s [] i p h = absurd (omega arith)
+bytes-at s (e ∷ es) zero p h = first-bytes s e (records (outcome s e .state) es) (p .0)
+bytes-at s (e ∷ es) (suc i) p h = rw (past-first s e es i) (bytes-at (outcome s e .state) es i (p .1) (omega arith))
 
 pub each-record : EachRecord
 unfolding front
-each-record s room i e h = rw (eq-eqb (check s room) 0 e) (bytes-at fresh (sheetEvents s) i (omega (arith, length-run s room e)))
+each-record s room i e h = rw (eq-eqb (check s room) 0 e) (bytes-at fresh (sheetEvents s) i (no-calls s) (omega (arith, length-run s room e)))

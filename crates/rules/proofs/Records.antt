@@ -1,6 +1,6 @@
 -- The promise in the records, proved: the record of an event shows the state that the rules' run has after it.
 use Prim.Native.Nat.{ℕ, _+_, _*_, _%_, _≤_}
-use mathlib.Core.Path.{_≡_, refl, ap, sym, _∙_}
+use mathlib.Core.Path.{_≡_, refl, ap, sym, subst, _∙_}
 use mathlib.Core.Bool.{Bool, true, false, _||_}
 use mathlib.Core.List.{List, [], _∷_, _++_, append-assoc}
 use native.Mathlib.Omega.{arith}
@@ -10,6 +10,8 @@ use lib.Seq.{getD-append-add}
 use Rattle.rules.specs.Words.{if_then_else_, bit}
 use Rattle.rules.specs.Events.{Event}
 use Rattle.rules.specs.Pll.{holdover, freeRun, locked, is}
+use Rattle.rules.specs.Settings.{delay, reversion}
+use Rattle.rules.specs.Buckets.{startBucket, bucketOf}
 use Rattle.rules.specs.State.{State, selected, mode, Ready}
 use Rattle.rules.specs.History.{held}
 use Rattle.rules.specs.Registers.{fresh}
@@ -17,8 +19,12 @@ use Rattle.rules.specs.Reading.{stateByte, statusByte}
 use Rattle.rules.specs.Refusals.{refusal}
 use Rattle.rules.specs.Run.{next, run, outcome}
 use Rattle.rules.specs.Sheet.{sheetEvents, check, recordOf, records, front}
-use Rattle.rules.proofs.Promise.{run-append, promise}
+use Rattle.rules.proofs.Counts.{delays}
+use Rattle.rules.proofs.SoundBuckets.{start-bucket}
+use Rattle.rules.proofs.Callless.{callless-front, no-calls, untouched}
+use Rattle.rules.proofs.Promise.{run-append, promise-at-start}
 use Rattle.rules.proofs.Sheets.{record-is, records-append, length-records}
+use Rattle.rules.specs.Laws.{Callless}
 use Rattle.rules.specs.Records.{byteOf, RecordsPromise}
 
 -- an element behind a list
@@ -71,7 +77,9 @@ records-promise sheet room before after later e rest r zero events p =
     let now = next (run fresh xs) e in
     let bytes = record-is (refusal (run fresh xs) e) now in
     let same = state-after before after later e in
-    let served = promise before after (later ++ (e ∷ [])) r p in
+    let plain = callless-front before (after ++ later) (callless-front xs (e ∷ rest) (subst Callless events (no-calls sheet))) in
+    let start : bucketOf (run fresh before .buckets) r ≡ startBucket = rw (untouched before plain) (start-bucket r) in
+    let served = promise-at-start before after (later ++ (e ∷ [])) r (reversion (run fresh before .settings)) start (delays (delay (run fresh before .settings))) p in
     let state = bytes-are sheet room xs e rest 1 zero events ∙ ap (λ (l : List ℕ). getD (l ++ records now rest) 1 0) bytes in
     let status = bytes-are sheet room xs e rest 3 zero events ∙ ap (λ (l : List ℕ). getD (l ++ records now rest) 3 0) bytes in
     record {

@@ -12,10 +12,10 @@ use Rattle.rules.specs.Pll.{Mode, freeRun, locked, modeNumber, is, unloc
 use Rattle.rules.specs.Settings.{Settings, automatic, opMode, delayTicks, reversion}
 use Rattle.rules.specs.Selection.{Inputs, input, Choice, candidate, best, settled, waitLimit, waitAfter, switches, chosen, unselectedMode, modeAfter, steered}
 use Rattle.rules.specs.State.{State, selected, mode, Ready}
-use Rattle.rules.specs.Tick.{watched, loopAfter, inputsAfter}
+use Rattle.rules.specs.Tick.{watchedAfter, loopAfter, inputsAfter}
 use Rattle.rules.specs.Registers.{place, registers, register, largest}
 use Rattle.rules.specs.Run.{next}
-use Rattle.rules.specs.Laws.{Selectable, SoundInputs, SoundSettings, SoundLoop, Lawful}
+use Rattle.rules.specs.Laws.{SoundBuckets, Selectable, SoundInputs, SoundSettings, SoundLoop, Lawful}
 use Rattle.rules.proofs.Tests.{if-case, by-test, clash, or-true, low, high, is-between}
 use Rattle.rules.proofs.EightInputs.{input-altered-same}
 use Rattle.rules.proofs.Best.{candidate-number}
@@ -88,15 +88,15 @@ looped-tracking lock p h =
     (λ e. if-case (λ (m : Mode). 2 ≤ modeNumber m) (is locked (p .mode)) (λ t. omega arith) (λ t. h))
 
 -- an unlock run of 782 takes the selected reference out of the choice
-alarm-unqualified : (mask : ℕ) (lock : Bool) (s : State) → SoundInputs (s .inputs) → isTracked (selected s) ≡ true → alarmDue (loopAfter lock s) ≡ true
+alarm-unqualified : (mask : ℕ) (lock : Bool) (s : State) → SoundBuckets (s .buckets) → SoundInputs (s .buckets) (s .inputs) → isTracked (selected s) ≡ true → alarmDue (loopAfter lock s) ≡ true
     → qualified (input (inputsAfter mask lock s) (selected s)) ≡ false
-unfolding inputsAfter qualified lockAlarmed
-alarm-unqualified mask lock s w r a =
+unfolding inputsAfter watchedAfter qualified lockAlarmed
+alarm-unqualified mask lock s sets w r a =
     rw (
       r,
       a,
-      input-altered-same lockAlarmed (selected s) (watched mask (s .inputs)) (low 1 8 (selected s) r)
-          (omega (arith, sound-watched mask (s .inputs) w .eight, high 1 8 (selected s) r)),
+      input-altered-same lockAlarmed (selected s) (watchedAfter mask s) (low 1 8 (selected s) r)
+          (omega (arith, sound-watched (s .buckets) sets mask (s .inputs) w .eight, high 1 8 (selected s) r)),
     ) refl
 
 not-selectable : (inputs : Inputs) (r : ℕ) → isTracked r ≡ true → qualified (input inputs r) ≡ false → Selectable inputs r → ⊥
@@ -147,7 +147,7 @@ module _ (mask : ℕ) (lock : Bool) (s : State) (w : Lawful s) where
       tracked : isTracked (selected s) ≡ true → loopAfter lock s .unlockRun < unlockTicks
       tracked e =
           by-test (alarmDue (loopAfter lock s))
-          (λ a. absurd (not-selectable (inputsAfter mask lock s) (selected s) e (alarm-unqualified mask lock s (w .inputs) e a) (rw same at selectable)))
+          (λ a. absurd (not-selectable (inputsAfter mask lock s) (selected s) e (alarm-unqualified mask lock s (w .buckets) (w .inputs) e a) (rw same at selectable)))
           (λ a. rw e (omega (arith, looped-unlock lock (s .loop), eqb-false (looped lock (s .loop) .unlockRun) unlockTicks (rw e at a))))
 
   tracking-before : isTracked (selected s) ≡ true → 2 ≤ modeNumber (loopAfter lock s .mode)

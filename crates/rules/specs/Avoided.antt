@@ -44,13 +44,14 @@ waiting = record { selected = 3; wait = 3; waitFor = 2 }
 -- a fresh unit with these inputs and settings
 abbrev unit : Settings → Inputs → State
 unit set inputs =
-    record { inputs = inputs; settings = set; loop = fresh .loop; choice = fresh .choice; history = fresh .history; holding = fresh .holding }
+    record { inputs = inputs; buckets = fresh .buckets; settings = set; loop = fresh .loop; choice = fresh .choice; history = fresh .history; holding = fresh .holding }
 
 -- in Holdover for so many ticks
 abbrev inHoldover : ℕ → State
 inHoldover n =
     record {
       inputs = fresh .inputs;
+      buckets = fresh .buckets;
       settings = fresh .settings;
       loop = record { mode = holdover; lockRun = 0; unlockRun = 0 };
       choice = fresh .choice;

@@ -1,6 +1,6 @@
 -- What holds in every state that events lead to from a fresh unit, and other laws of the rules, as statements. The last definition, `Laws`, has them all, and is
 -- proved in proofs/Laws.antt. The laws of the printed pages stand in PageLaws.
-use Prim.Native.Nat.{ℕ, _+_, _-_, _*_, _/_, _%_, _≤_, _<_, min}
+use Prim.Native.Nat.{ℕ, _+_, _-_, _*_, _/_, _%_, _^_, _≤_, _<_, min}
 use mathlib.Core.Path.{_≡_}
 use mathlib.Core.Logic.{_⊎_}
 use mathlib.Core.Bool.{Bool, true, false, _&&_}
@@ -9,11 +9,12 @@ use lib.IntN.{ℤ, pos, natAbs, _+ℤ_, _*ℤ_}
 use lib.Signed.{_≤ℤ_}
 use lib.ListN.{length, getD, drop}
 use Rattle.rules.specs.Words.{if_then_else_, isInput, isTracked}
-use Rattle.rules.specs.Events.{Event, sampleLimit, isTick}
-use Rattle.rules.specs.Monitors.{Bucket, bucketOf, Input, fullSoak, qualified, alarmTicks}
+use Rattle.rules.specs.Events.{Event, sampleLimit, isTick, isCall}
+use Rattle.rules.specs.Monitors.{Bucket, Input, fullSoak, qualified, alarmTicks}
 use Rattle.rules.specs.Pll.{modeNumber, holdover, is, Loop, lockTicks, unlockTicks}
 use Rattle.rules.specs.Settings.{Settings, automatic, reject, qualification, usable, revertive, ahead, delayTicks}
 use Rattle.rules.specs.Selection.{Inputs, input, Choice, available, candidate, best, settled, waitLimit, waitAfter, reverted, chosen}
+use Rattle.rules.specs.Buckets.{Buckets, freshBuckets, setAt, setOf, bucketOf}
 use Rattle.rules.specs.History.{History, blockSamples, keptBlocks, readyBlocks, ready, sumLimit, saturated, sumOf, value}
 use Rattle.rules.specs.State.{State, selected, mode}
 use Rattle.rules.specs.Tick.{hourTicks, holdingLimit}
@@ -21,21 +22,35 @@ use Rattle.rules.specs.Registers.{inMap, register, largest, fresh}
 use Rattle.rules.specs.Reading.{hours, twos, read}
 use Rattle.rules.specs.Refusals.{accepted}
 use Rattle.rules.specs.Run.{next, run}
-use Rattle.rules.specs.Sheet.{signedWord, recordCount, check, front, outputAfter}
+use Rattle.rules.specs.Sheet.{signedWord, sheetEvents, recordCount, check, front, outputAfter}
 use Rattle.rules.specs.Printout.{decimal}
 
 -- ---- invariants
 
--- one input, with its bucket: level at most 8, decay count at most 1, remainder at most 782, soak at most 79
+-- a set within its bounds. #104: "L < U ≤ S ≤ 255 and d from 0 to 3"
+pub record SoundBucket (b : Bucket) : Type 0 where
+  pub clears : b .clearLevel < b .setLevel
+  pub sets : b .setLevel ≤ b .size
+  pub small : b .size ≤ 255
+  pub decays : (d : ℕ) × ((d ≤ 3) × (b .decayTicks ≡ 2 ^ d))
+
+-- four sets, and each input has one of them
+pub record SoundBuckets (bs : Buckets) : Type 0 where
+  pub four : length (bs .sets) ≡ 4
+  pub each : (n : ℕ) → n ≤ 3 → SoundBucket (setAt bs n)
+  pub eight : length (bs .assigned) ≡ 8
+  pub has : (i : ℕ) → isInput i ≡ true → setOf bs i ≤ 3
+
+-- one input, with its bucket: level at most its size, decay count below the ticks of its decay, remainder at most 782, soak at most 79
 pub record SoundInput (b : Bucket) (i : Input) : Type 0 where
   pub level-le : i .activity .level ≤ b .size
   pub decay-lt : i .activity .decay < b .decayTicks
   pub remainder-le : i .remainder ≤ alarmTicks
   pub soak-le : i .soak ≤ fullSoak
 
-pub record SoundInputs (inputs : Inputs) : Type 0 where
+pub record SoundInputs (bs : Buckets) (inputs : Inputs) : Type 0 where
   pub eight : length inputs ≡ 8
-  pub each : (i : ℕ) → isInput i ≡ true → SoundInput (bucketOf i) (input inputs i)
+  pub each : (i : ℕ) → isInput i ≡ true → SoundInput (bucketOf bs i) (input inputs i)
 
 -- each setting at most its Largest, reject − qualification at least 6
 pub record SoundSettings (set : Settings) : Type 0 where
@@ -81,7 +96,8 @@ pub record SoundHistory (h : History) : Type 0 where
   pub backup-full : (h .backup ≡ []) ⊎ (readyBlocks ≤ length (h .backup))
 
 pub record Lawful (s : State) : Type 0 where
-  pub inputs : SoundInputs (s .inputs)
+  pub buckets : SoundBuckets (s .buckets)
+  pub inputs : SoundInputs (s .buckets) (s .inputs)
   pub settings : SoundSettings (s .settings)
   pub loop : SoundLoop (s .loop) (s .choice)
   pub history : SoundHistory (s .history)
@@ -200,6 +216,21 @@ Map = (a : ℕ) → inMap a ≡ true → register a .address ≡ a
 abbrev pub Bytes : Type 0
 Bytes = (es : List Event) (a : ℕ) → read (run fresh es) a .byte < 256
 
+-- ---- the calls of the host's
+
+-- a list with no call in it
+abbrev pub Callless : List Event → Type 0
+Callless [] = Unit {0}
+Callless (e ∷ es) = (isCall e ≡ false) × Callless es
+
+-- leaves every set and every input's set as they start
+abbrev pub Untouched : Type 0
+Untouched = (es : List Event) → Callless es → run fresh es .buckets ≡ freshBuckets
+
+-- and a run sheet has none
+abbrev pub NoCalls : Type 0
+NoCalls = (s : List ℕ) → Callless (sheetEvents s)
+
 -- ---- run sheets
 
 -- a sheet that runs writes 4 bytes a record, within the output, and leaves the output's length
@@ -251,6 +282,8 @@ pub record Laws : Type 0 where
   pub refused : Refused
   pub map : Map
   pub bytes : Bytes
+  pub untouched : Untouched
+  pub noCalls : NoCalls
   pub outputs : Outputs
   pub outputKept : OutputKept
   pub eachRecord : EachRecord

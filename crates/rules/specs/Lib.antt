@@ -7,6 +7,7 @@ pub mod Monitors
 pub mod Pll
 pub mod Settings
 pub mod Selection
+pub mod Buckets
 pub mod History
 pub mod State
 pub mod Tick

@@ -7,19 +7,12 @@ use Rattle.rules.specs.Words.{if_then_else_}
 
 -- ---- 1. the bucket
 
--- the numbers of a bucket: its size, the levels that set and clear the alarm, and the ticks of a decay
+-- the numbers of a bucket. #104: "size S, set level U, clear level L, decay of 2^d ticks"; document 01 has 8, 6, 4 and 2 ticks
 pub record Bucket : Type 0 where
   pub size : ℕ
   pub setLevel : ℕ
   pub clearLevel : ℕ
   pub decayTicks : ℕ
-
-unfoldable pub bucket : Bucket
-bucket = record { size = 8; setLevel = 6; clearLevel = 4; decayTicks = 2 }
-
--- the bucket of an input, by its number
-abbrev pub bucketOf : ℕ → Bucket
-bucketOf i = bucket
 
 pub record Activity : Type 0 where
   -- the bucket's level, and its decay count
@@ -29,23 +22,27 @@ pub record Activity : Type 0 where
   pub alarm : Bool
 
 -- "an irregular tick adds 1 up to 8 and zeroes the decay count. Otherwise the decay count rises; at 2 it is zeroed and the level falls by 1, not below 0"
-unfoldable pub levelAfter : Bucket → Bool → ℕ → ℕ → ℕ
-levelAfter b irregular level decay =
-    if irregular then min (b .size) (level + 1)
-    else (if leb (b .decayTicks) (decay + 1) then level - 1
+unfoldable pub levelAfter : ℕ → ℕ → Bool → ℕ → ℕ → ℕ
+levelAfter size decayTicks irregular level decay =
+    if irregular then min size (level + 1)
+    else (if leb decayTicks (decay + 1) then level - 1
     else level)
 
-unfoldable pub decayAfter : Bucket → Bool → ℕ → ℕ
-decayAfter b irregular decay = if irregular then 0 else (if leb (b .decayTicks) (decay + 1) then 0 else decay + 1)
+unfoldable pub decayAfter : ℕ → Bool → ℕ → ℕ
+decayAfter decayTicks irregular decay = if irregular then 0 else (if leb decayTicks (decay + 1) then 0 else decay + 1)
 
 -- "Activity alarm: set at level 6 or more, cleared at 4 or less, kept at 5"
-unfoldable pub alarmAfter : Bucket → ℕ → Bool → Bool
-alarmAfter b level alarm = if leb (b .setLevel) level then true else (if leb level (b .clearLevel) then false else alarm)
+unfoldable pub alarmAfter : ℕ → ℕ → ℕ → Bool → Bool
+alarmAfter setLevel clearLevel level alarm = if leb setLevel level then true else (if leb level clearLevel then false else alarm)
 
 unfoldable pub activityAfter : Bucket → Bool → Activity → Activity
 activityAfter b irregular x =
-    let level = levelAfter b irregular (x .level) (x .decay) in
-    record { level = level; decay = decayAfter b irregular (x .decay); alarm = alarmAfter b level (x .alarm) }
+    let level = levelAfter (b .size) (b .decayTicks) irregular (x .level) (x .decay) in
+    record {
+      level = level;
+      decay = decayAfter (b .decayTicks) irregular (x .decay);
+      alarm = alarmAfter (b .setLevel) (b .clearLevel) level (x .alarm);
+    }
 
 -- ---- 2. lock alarm, good, soak
 
@@ -87,6 +84,11 @@ qualified i = eqb (i .soak) fullSoak
 -- the input with its soak at 0 (a Hit, and a lock alarm)
 unfoldable pub unsoaked : Input → Input
 unsoaked i = record { activity = i .activity; frequency = i .frequency; remainder = i .remainder; soak = 0 }
+
+-- #104: "at level S, alarm set, decay count 0"; the soak is unchanged
+unfoldable pub atSize : ℕ → Input → Input
+atSize size i =
+    record { activity = record { level = size; decay = 0; alarm = true }; frequency = i .frequency; remainder = i .remainder; soak = i .soak }
 
 -- the lock alarm's length (100 s)
 abbrev pub alarmTicks : ℕ

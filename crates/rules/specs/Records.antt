@@ -6,11 +6,12 @@ use mathlib.Core.List.{List, [], _∷_, _++_}
 use lib.ListN.{length, getD}
 use Rattle.rules.specs.Words.{bit}
 use Rattle.rules.specs.Events.{Event}
+use Rattle.rules.specs.Settings.{reversion}
 use Rattle.rules.specs.State.{State}
 use Rattle.rules.specs.Registers.{fresh}
 use Rattle.rules.specs.Run.{run}
 use Rattle.rules.specs.Sheet.{sheetEvents, check, front}
-use Rattle.rules.specs.Service.{Provisos, selectedTicks, readyTicks, acceptedTicks}
+use Rattle.rules.specs.Service.{Provisos, acceptedTicks}
 
 -- "Each gives a 4-byte record: refusal or 0, then 0x48, 0x46, 0x49." Byte k of record i.
 abbrev pub byteOf : List ℕ → ℕ → ℕ → ℕ
@@ -25,12 +26,12 @@ shownReady records i = bit (byteOf records i 3) 2
 
 -- what is promised of record i, where s is the rules' state at the moment and `after`, or more events, have come since
 pub record RecordServed (r : ℕ) (s : State) (after : List Event) (records : List ℕ) (i : ℕ) : Type 0 where
-  pub selected-is : selectedTicks r s ≤ acceptedTicks s after → shownSelected records i ≡ r
-  pub ready-is : readyTicks r s ≤ acceptedTicks s after → shownReady records i ≡ true
+  pub selected-is : 860 + reversion (s .settings) ≤ acceptedTicks s after → shownSelected records i ≡ r
+  pub ready-is : 6_379 + reversion (s .settings) ≤ acceptedTicks s after → shownReady records i ≡ true
 
 -- THE PROMISE IN THE RECORDS. Take every sheet that runs; its settings and events are `before`, `after`, `later`, an event e and the rest, with the moment
 -- after `before`. For every reference r for which the provisos hold up to e: if 860 + n accepted ticks stand in `after`, the record of e shows r as selected;
--- if 6,379 + n do, it shows Ready too.
+-- if 6,379 + n do, it shows Ready too. The sets are as they start, since a sheet holds no call of #104.
 abbrev pub RecordsPromise : Type 0
 RecordsPromise =
     (sheet : List ℕ) (room : ℕ) (before after later : List Event) (e : Event) (rest : List Event) (r : ℕ)

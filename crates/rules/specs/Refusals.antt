@@ -1,11 +1,12 @@
--- Document 01, "Turned down", numbers 1 to 8: what an event is turned down with. "Checked in number order."
+-- Document 01, "Turned down", numbers 1 to 8, and 14 of request #104: what an event is turned down with. "Checked in number order."
 use Prim.Native.Nat.{ℕ, _+_}
 use mathlib.Core.Bool.{Bool, not, _&&_, _||_}
 use lib.Dec.{leb, ltb, eqb}
 use lib.IntN.{natAbs}
 use Rattle.rules.specs.Words.{if_then_else_, isInput, isTracked}
-use Rattle.rules.specs.Events.{Event, tick, measurement, hit, write, sampleLimit}
+use Rattle.rules.specs.Events.{Event, tick, measurement, hit, write, setBucket, assignBucket, sampleLimit}
 use Rattle.rules.specs.Settings.{Settings, reject, qualification}
+use Rattle.rules.specs.Buckets.{inBounds, isSetNumber}
 use Rattle.rules.specs.History.{held}
 use Rattle.rules.specs.State.{State, selected, Ready}
 use Rattle.rules.specs.Registers.{inMap, readOnly, largest, written}
@@ -31,12 +32,22 @@ writeRefusal set isReady isHeld a v =
     else (if eqb a 0x26 && commandRefused isReady isHeld v then 8
     else 0))))
 
+-- 14: "set out of these bounds or set number over 3"
+unfoldable pub setRefusal : ℕ → ℕ → ℕ → ℕ → ℕ → ℕ
+setRefusal n size setLevel clearLevel d = if isSetNumber n && inBounds size setLevel clearLevel d then 0 else 14
+
+-- "an input not 1 to 8 gives 6 and is checked before it"
+unfoldable pub assignRefusal : ℕ → ℕ → ℕ
+assignRefusal i n = if not (isInput i) then 6 else (if isSetNumber n then 0 else 14)
+
 -- 5: "Hit with no reference 1 to 8 selected"; 6: "input not 1 to 8"; 7: "sample out of range"; 0 where the event is accepted
 unfoldable pub refusal : State → Event → ℕ
 refusal s (tick mask lock x) = if leb (natAbs x) sampleLimit then 0 else 7
 refusal s (measurement i offset) = if isInput i then 0 else 6
 refusal s hit = if isTracked (selected s) then 0 else 5
 refusal s (write a v) = writeRefusal (s .settings) (Ready s) (held (s .history .backup)) a v
+refusal s (setBucket n size setLevel clearLevel d) = setRefusal n size setLevel clearLevel d
+refusal s (assignBucket i n) = assignRefusal i n
 
 -- "An accepted event is one not turned down."
 abbrev pub accepted : State → Event → Bool

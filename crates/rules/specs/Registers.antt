@@ -9,6 +9,7 @@ use Rattle.rules.specs.Monitors.{freshInput}
 use Rattle.rules.specs.Pll.{freeRun}
 use Rattle.rules.specs.Settings.{Settings}
 use Rattle.rules.specs.Selection.{settled}
+use Rattle.rules.specs.Buckets.{freshBuckets}
 use Rattle.rules.specs.History.{freshHistory}
 use Rattle.rules.specs.State.{State}
 
@@ -100,6 +101,7 @@ unfoldable pub freshFrom : List ℕ → State
 freshFrom table =
     record {
       inputs = replicate 8 freshInput;
+      buckets = freshBuckets;
       settings = settingsFrom table;
       loop = record { mode = freeRun; lockRun = 0; unlockRun = 0 };
       choice = settled 0;

@@ -4,10 +4,11 @@ use mathlib.Core.List.{List, [], _∷_}
 use lib.Dec.{eqb}
 use lib.IntN.{ℤ}
 use Rattle.rules.specs.Words.{if_then_else_}
-use Rattle.rules.specs.Events.{Event, tick, measurement, hit, write}
-use Rattle.rules.specs.Monitors.{measured, unsoaked}
+use Rattle.rules.specs.Events.{Event, tick, measurement, hit, write, setBucket, assignBucket}
+use Rattle.rules.specs.Monitors.{Bucket, measured, unsoaked}
 use Rattle.rules.specs.Settings.{reject, qualification}
-use Rattle.rules.specs.Selection.{altered, settled, unselectedLoop}
+use Rattle.rules.specs.Selection.{Inputs, altered, settled, unselectedLoop}
+use Rattle.rules.specs.Buckets.{Buckets, bucketFrom, setAt, withSet, withAssigned, putAtSize, having}
 use Rattle.rules.specs.History.{openEmptied, commanded}
 use Rattle.rules.specs.State.{State, selected, Ready}
 use Rattle.rules.specs.Tick.{ticked}
@@ -19,6 +20,7 @@ unfoldable pub afterMeasurement : ℕ → ℤ → State → State
 afterMeasurement i offset s =
     record {
       inputs = altered (measured (reject (s .settings)) (qualification (s .settings)) offset) i (s .inputs);
+      buckets = s .buckets;
       settings = s .settings;
       loop = s .loop;
       choice = s .choice;
@@ -31,6 +33,7 @@ unfoldable pub afterHit : State → State
 afterHit s =
     record {
       inputs = altered unsoaked (selected s) (s .inputs);
+      buckets = s .buckets;
       settings = s .settings;
       loop = unselectedLoop (Ready s);
       choice = settled 0;
@@ -43,6 +46,7 @@ unfoldable pub afterWrite : ℕ → ℕ → State → State
 afterWrite a v s =
     record {
       inputs = s .inputs;
+      buckets = s .buckets;
       settings = if eqb a 0x26 then s .settings else written a v (s .settings);
       loop = s .loop;
       choice = s .choice;
@@ -50,12 +54,33 @@ afterWrite a v s =
       holding = s .holding;
     }
 
+-- the state with other sets or assignments, and the inputs that they concern put at their size
+unfoldable pub afterCall : Buckets → Inputs → State → State
+afterCall buckets inputs s =
+    record {
+      inputs = inputs;
+      buckets = buckets;
+      settings = s .settings;
+      loop = s .loop;
+      choice = s .choice;
+      history = s .history;
+      holding = s .holding;
+    }
+
+unfoldable pub afterSet : ℕ → Bucket → State → State
+afterSet n b s = afterCall (withSet n b (s .buckets)) (putAtSize (having (s .buckets) n) (b .size) (s .inputs)) s
+
+unfoldable pub afterAssign : ℕ → ℕ → State → State
+afterAssign i n s = afterCall (withAssigned i n (s .buckets)) (putAtSize (λ j. eqb j i) (setAt (s .buckets) n .size) (s .inputs)) s
+
 -- what an accepted event leaves
 unfoldable pub effect : State → Event → State
 effect s (tick mask lock x) = ticked mask lock x s
 effect s (measurement i offset) = afterMeasurement i offset s
 effect s hit = afterHit s
 effect s (write a v) = afterWrite a v s
+effect s (setBucket n size setLevel clearLevel d) = afterSet n (bucketFrom size setLevel clearLevel d) s
+effect s (assignBucket i n) = afterAssign i n s
 
 -- what any event leaves: one that is turned down leaves the state "as before"
 unfoldable pub next : State → Event → State

@@ -1,15 +1,16 @@
--- Document 01, "Demand 3": the promise of service, one claim about whole histories from a fresh unit.
-use Prim.Native.Nat.{ℕ, _+_, _*_, _-_, _≤_, max}
+-- Document 01, "Demand 3", as request #104 of document 02 has it: the promise of service, one claim about whole histories from a fresh unit.
+use Prim.Native.Nat.{ℕ, _+_, _*_, _-_, _^_, _≤_, max}
 use mathlib.Core.Path.{_≡_}
 use mathlib.Core.Bool.{true, false, _&&_}
 use mathlib.Core.List.{List, [], _∷_, _++_}
 use lib.IntN.{natAbs}
 use Rattle.rules.specs.Words.{if_then_else_, bitOf}
-use Rattle.rules.specs.Events.{Event, tick, measurement, hit, write, isTick}
-use Rattle.rules.specs.Monitors.{Bucket, bucket, bucketOf, fullSoak, alarmTicks}
+use Rattle.rules.specs.Events.{Event, tick, measurement, hit, write, setBucket, assignBucket, isTick}
+use Rattle.rules.specs.Monitors.{Bucket, fullSoak, alarmTicks}
 use Rattle.rules.specs.Pll.{lockTicks}
 use Rattle.rules.specs.Settings.{qualification, delay, reversion}
 use Rattle.rules.specs.Selection.{input}
+use Rattle.rules.specs.Buckets.{bucketFrom, startBucket, bucketOf}
 use Rattle.rules.specs.History.{blockSamples, readyBlocks}
 use Rattle.rules.specs.State.{State, selected, Ready}
 use Rattle.rules.specs.Registers.{fresh}
@@ -20,19 +21,21 @@ use Rattle.rules.specs.Preference.{Automatic, Preferred}
 
 -- ---- the events from the moment on
 
--- what is asked of a write: it is turned down
+-- what is asked of a write, and of what counts as one: it is turned down
 abbrev pub TurnedDown : State → Event → Type 0
 TurnedDown s e = accepted s e ≡ false
 
 -- What is asked of one event; s is the state in which it begins. No accepted tick is irregular for r ("its mask has r's bit set"), and while r is selected
 -- ("selected is r when the event begins") it reports lock. No measurement of r is in magnitude above the qualification limit. No Hit comes while r is
--- selected. No write is accepted. "Anything may stand in the other mask bits, the other inputs' measurements and the samples, and, while r is not
+-- selected. No write is accepted; #104: "setting or assigning counts as a write". "Anything may stand in the other mask bits, the other inputs' measurements and the samples, and, while r is not
 -- selected, in the lock flags; Hits may come then."
 abbrev pub Fair : ℕ → State → Event → Type 0
 Fair r s (tick mask lock x) = accepted s (tick mask lock x) ≡ true → (bitOf mask r ≡ false) × (selected s ≡ r → lock ≡ true)
 Fair r s (measurement i offset) = i ≡ r → natAbs offset ≤ qualification (s .settings)
 Fair r s hit = selected s ≡ r → ⊥
 Fair r s (write a v) = TurnedDown s (write a v)
+Fair r s (setBucket n size setLevel clearLevel d) = TurnedDown s (setBucket n size setLevel clearLevel d)
+Fair r s (assignBucket i n) = TurnedDown s (assignBucket i n)
 
 -- each event of the list, on "the state that the one before it left"
 abbrev pub AllFair : ℕ → State → List Event → Type 0
@@ -51,11 +54,12 @@ pub record Provisos (r : ℕ) (s : State) (events : List Event) : Type 0 where
 
 -- ---- the numbers
 
--- until the lock alarm's remainder is 0 and the level of a clock that behaves has fallen to the clear level, whichever is later (782)
+-- until the lock alarm's remainder is 0 and the level of a clock that behaves has fallen to the clear level, whichever is later. #104: "the larger of 782
+-- and (S − L) times 2^d"
 abbrev pub settleTicks : Bucket → ℕ
 settleTicks b = max alarmTicks ((b .size - b .clearLevel) * b .decayTicks)
 
--- until it is qualified (860): its soak fills from there on
+-- until it is qualified: its soak fills from there on
 abbrev pub qualifyTicks : Bucket → ℕ
 qualifyTicks b = fullSoak - 1 + settleTicks b
 
@@ -63,17 +67,18 @@ qualifyTicks b = fullSoak - 1 + settleTicks b
 abbrev pub fillTicks : ℕ
 fillTicks = lockTicks - 1 + readyBlocks * blockSamples
 
--- until r is selected, n being the reversion delay in ticks: 860 + n
+-- until r is selected, with r's set at the moment, n being the reversion delay in ticks
 abbrev pub selectedTicks : ℕ → State → ℕ
-selectedTicks r s = qualifyTicks (bucketOf r) + reversion (s .settings)
+selectedTicks r s = qualifyTicks (bucketOf (s .buckets) r) + reversion (s .settings)
 
--- until Ready stands too: 6,379 + n
+-- until Ready stands too
 abbrev pub readyTicks : ℕ → State → ℕ
 readyTicks r s = selectedTicks r s + fillTicks
 
 -- in figures
 pub record Numbers : Type 0 where
-  pub qualify : qualifyTicks bucket ≡ 860
+  pub qualify : (size setLevel clearLevel d : ℕ) → qualifyTicks (bucketFrom size setLevel clearLevel d) ≡ 78 + max 782 ((size - clearLevel) * 2 ^ d)
+  pub start : qualifyTicks startBucket ≡ 860
   pub fill : fillTicks ≡ 5_519
 
 -- how many accepted ticks a list has
@@ -90,18 +95,30 @@ pub record Served (toSelected toReady r : ℕ) (s : State) (after : List Event) 
   pub ready-is : toReady ≤ acceptedTicks s after → Ready now ≡ true
 
 -- Take every list of events from a fresh unit, `before`, `after` and `later`, with the moment after `before`, and every reference r for which the provisos
--- hold. After the accepted tick with number 860 + n, counted from the moment, and after every later event, r is selected; after the one with number
--- 6,379 + n, and after every later event, Ready stands too.
+-- hold. After the accepted tick with number `selectedTicks`, counted from the moment, and after every later event, r is selected; after the one with number
+-- `readyTicks`, and after every later event, Ready stands too.
 abbrev pub Promise : Type 0
 Promise =
     (before after later : List Event) (r : ℕ)
     → Provisos r (run fresh before) (after ++ later)
     → Served (selectedTicks r (run fresh before)) (readyTicks r (run fresh before)) r (run fresh before) after (run fresh (before ++ (after ++ later)))
 
--- The same in the customer's figures: "n is the least whole number with 4n at least 1,875 times the reversion delay in minutes."
+-- The same in the customer's figures: "n is the least whole number with 4n at least 1,875 times the reversion delay in minutes." #104: r's set at the moment
+-- is S, U, L, d, and "78 + the larger of 782 and (S − L) times 2^d" stands "for its 860, with 5,519 more to Ready".
 abbrev pub PromiseInFigures : Type 0
 PromiseInFigures =
+    (before after later : List Event) (r n size setLevel clearLevel d : ℕ)
+    → bucketOf (run fresh before .buckets) r ≡ bucketFrom size setLevel clearLevel d
+    → LeastDelay (delay (run fresh before .settings)) n
+    → Provisos r (run fresh before) (after ++ later)
+    → let toSelected = 78 + max 782 ((size - clearLevel) * 2 ^ d) + n in
+    Served toSelected (toSelected + 5_519) r (run fresh before) after (run fresh (before ++ (after ++ later)))
+
+-- With r's set as the sets start this is document 01's: 860 + n, and 6,379 + n.
+abbrev pub PromiseAtStart : Type 0
+PromiseAtStart =
     (before after later : List Event) (r n : ℕ)
+    → bucketOf (run fresh before .buckets) r ≡ startBucket
     → LeastDelay (delay (run fresh before .settings)) n
     → Provisos r (run fresh before) (after ++ later)
     → Served (860 + n) (6_379 + n) r (run fresh before) after (run fresh (before ++ (after ++ later)))

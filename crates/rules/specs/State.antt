@@ -4,10 +4,13 @@ use mathlib.Core.Bool.{Bool}
 use Rattle.rules.specs.Pll.{Mode, Loop}
 use Rattle.rules.specs.Settings.{Settings}
 use Rattle.rules.specs.Selection.{Inputs, Choice}
+use Rattle.rules.specs.Buckets.{Buckets}
 use Rattle.rules.specs.History.{History, ready}
 
 pub record State : Type 0 where
   pub inputs : Inputs
+  -- #104: the four sets, and the set of each input
+  pub buckets : Buckets
   pub settings : Settings
   pub loop : Loop
   pub choice : Choice

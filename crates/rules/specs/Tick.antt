@@ -3,16 +3,20 @@ use Prim.Native.Nat.{ℕ, _+_, _*_, min}
 use mathlib.Core.Bool.{Bool, _&&_}
 use lib.IntN.{ℤ}
 use Rattle.rules.specs.Words.{if_then_else_, bitOf, isTracked}
-use Rattle.rules.specs.Monitors.{bucketOf, monitored, lockAlarmed}
+use Rattle.rules.specs.Monitors.{Bucket, monitored, lockAlarmed}
 use Rattle.rules.specs.Pll.{Mode, holdover, locked, is, Loop, looped, alarmDue}
 use Rattle.rules.specs.Settings.{policy, automatic, opMode}
 use Rattle.rules.specs.Selection.{Inputs, altered, eachFrom, chosen, steered}
+use Rattle.rules.specs.Buckets.{bucketOf}
 use Rattle.rules.specs.History.{recorded}
 use Rattle.rules.specs.State.{State, selected, mode, Ready}
 
 -- Steps 1 and 2: each input by its bucket and its bit of the irregular mask.
-unfoldable pub watched : ℕ → Inputs → Inputs
-watched mask inputs = eachFrom (λ i. monitored (bucketOf i) (bitOf mask i)) 1 inputs
+unfoldable pub watched : (ℕ → Bucket) → ℕ → Inputs → Inputs
+watched bucket mask inputs = eachFrom (λ i. monitored (bucket i) (bitOf mask i)) 1 inputs
+
+unfoldable pub watchedAfter : ℕ → State → Inputs
+watchedAfter mask s = watched (bucketOf (s .buckets)) mask (s .inputs)
 
 -- Step 3: "Only if a reference 1 to 8 is selected when the tick begins."
 unfoldable pub loopAfter : Bool → State → Loop
@@ -21,8 +25,8 @@ loopAfter lock s = if isTracked (selected s) then looped lock (s .loop) else s .
 -- the inputs after steps 1 to 3: the lock alarm is that of the input selected when the tick begins
 unfoldable pub inputsAfter : ℕ → Bool → State → Inputs
 inputsAfter mask lock s =
-    if isTracked (selected s) && alarmDue (loopAfter lock s) then altered lockAlarmed (selected s) (watched mask (s .inputs))
-    else watched mask (s .inputs)
+    if isTracked (selected s) && alarmDue (loopAfter lock s) then altered lockAlarmed (selected s) (watchedAfter mask s)
+    else watchedAfter mask s
 
 -- "whole hours (28,125 ticks) in Holdover after the entering event, at most 255": the count stops at 255 hours (`Hours` in Laws)
 abbrev pub hourTicks : ℕ
@@ -43,6 +47,7 @@ steps1to4 mask lock s =
     let loop = steered (automatic (s .settings)) (opMode (s .settings)) (Ready s) (selected s) (choice .selected) (loopAfter lock s) in
     record {
       inputs = inputs;
+      buckets = s .buckets;
       settings = s .settings;
       loop = loop;
       choice = choice;
@@ -55,6 +60,7 @@ unfoldable pub step5 : ℤ → State → State
 step5 x s =
     record {
       inputs = s .inputs;
+      buckets = s .buckets;
       settings = s .settings;
       loop = s .loop;
       choice = s .choice;

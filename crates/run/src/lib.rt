@@ -99,6 +99,11 @@ fn run_events(
     let mut frequency = m.frequency;
     let mut remainder = m.remainder;
     let mut soak = m.soak;
+    let b = m.buckets;
+    let sizes = buckets::lanes(b.size, b.assigned);
+    let highs = buckets::lanes(b.high, b.assigned);
+    let lows = buckets::lanes(b.low, b.assigned);
+    let spans = buckets::lanes(b.span, b.assigned);
     let mut k = start;
     let mut i = 0;
     while i < n {
@@ -116,6 +121,10 @@ fn run_events(
             &mut frequency,
             &mut remainder,
             &mut soak,
+            &sizes,
+            &highs,
+            &lows,
+            &spans,
             regs,
             keys,
             sums,

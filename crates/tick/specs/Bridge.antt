@@ -4,6 +4,7 @@ use mathlib.Core.List.{List}
 use lib.IntN.{ℤ}
 use Rattle.rules.specs.State.{State}
 use Rattle.rules.specs.Registers.{settingsFrom}
+use Rattle.buckets.specs.Bridge.{bucketsOf}
 use Rattle.inputs.specs.Bridge.{inputsOf}
 use Rattle.inputs.specs.declared.Monitors.{Monitors}
 use Rattle.pll.specs.Bridge.{loopOf}
@@ -16,6 +17,7 @@ abbrev pub stateOf : Core → Monitors → List ℕ → List ℤ → List ℤ �
 stateOf k m regs sums building backup =
     record {
       inputs = inputsOf m;
+      buckets = bucketsOf (m .buckets);
       settings = settingsFrom regs;
       loop = loopOf (k .pll);
       choice = choiceOf (k .choice);

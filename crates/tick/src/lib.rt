@@ -12,6 +12,7 @@ ghost use Rattle.rules.specs.Pll as pll;
 ghost use Rattle.rules.specs.Selection.{altered};
 ghost use Rattle.rules.specs.Tick as rules;
 ghost use Rattle.rules.specs.Registers.{settingsFrom};
+ghost use Rattle.buckets.specs.Bridge.{numbers, numbersOf};
 ghost use Rattle.inputs.specs.Bridge.{inputsOf, withLockAlarms, across};
 ghost use Rattle.inputs.specs.declared.Monitors as stored;
 ghost use Rattle.candidates.specs.Keys.{keysFrom};
@@ -54,7 +55,7 @@ fn alarmed(selected: u8, p: Loop, remainder: &mut [u16; 8], soak: &mut [u16; 8])
     }
 }
 
-// The rule `ticked`, where the keys are those of the registers.
+// The rule `ticked`, where the numbers are those of each input's set, and the keys those of the registers.
 pub fn tick(
     mask: u8,
     lock: bool,
@@ -66,15 +67,31 @@ pub fn tick(
     frequency: &[u16; 8],
     remainder: &mut [u16; 8],
     soak: &mut [u16; 8],
+    sizes: &[u16; 8],
+    highs: &[u16; 8],
+    lows: &[u16; 8],
+    spans: &[u16; 8],
     regs: &[u8; 27],
     keys: &[u16; 9],
     sums: &mut [i64; 64],
     building: &mut [i64; 64],
 ) -> Core
-    ensures { λ r. ⌜ across level decay active (now (frequency .entry)) remainder soak (λ before after. (backup : List ℤ) → length (now (sums .entry)) ≡ 64 → now (keys .entry) ≡ keysFrom (settingsFrom (now (regs .entry))) → stateOf r after (now (regs .entry)) (now (sums .exit)) (now (building .exit)) backup ≡ rules.ticked mask lock x (stateOf k before (now (regs .entry)) (now (sums .entry)) (now (building .entry)) backup)) ⌝ }
+    ensures { λ r. ⌜ across level decay active (now (frequency .entry)) remainder soak (λ before after. (backup : List ℤ) → numbers (now (sizes .entry)) (now (highs .entry)) (now (lows .entry)) (now (spans .entry)) ≡ numbersOf (before .buckets) → length (now (sums .entry)) ≡ 64 → now (keys .entry) ≡ keysFrom (settingsFrom (now (regs .entry))) → stateOf r after (now (regs .entry)) (now (sums .exit)) (now (building .exit)) backup ≡ rules.ticked mask lock x (stateOf k before (now (regs .entry)) (now (sums .entry)) (now (building .entry)) backup)) ⌝ }
 {
     // steps 1 and 2
-    monitor::watched(mask, level, decay, active, frequency, remainder, soak);
+    monitor::watched(
+        mask,
+        level,
+        decay,
+        active,
+        frequency,
+        remainder,
+        soak,
+        sizes,
+        highs,
+        lows,
+        spans,
+    );
     // step 3
     let driven = looped(lock, k.choice.selected, k.pll);
     alarmed(k.choice.selected, driven, remainder, soak);

@@ -3,6 +3,7 @@ use mathlib.Core.List.{List}
 use lib.IntN.{ℤ}
 use denote.Ref.{RefT, now}
 use denote.Triple.Both.{Both}
+use Rattle.buckets.specs.declared.Buckets.{Buckets}
 use Rattle.inputs.specs.Bridge.{Row}
 use Rattle.tick.specs.declared.Core.{Core}
 use Rattle.unit.specs.Bridge.{Stored}
@@ -11,8 +12,8 @@ use Rattle.unit.specs.Bridge.{Stored}
 abbrev pub Sums : Type 0
 Sums = Both (RefT (List ℤ)) (RefT (List ℤ))
 
-abbrev pub entering : Row → Row → Row → Row → Row → Row → Row → Sums → Sums → Sums → Core → Stored
-entering level decay active frequency remainder soak regs sums building backup k =
+abbrev pub entering : Row → Row → Row → Row → Row → Row → Row → Sums → Sums → Sums → Buckets → Core → Stored
+entering level decay active frequency remainder soak regs sums building backup buckets k =
     record {
       core = k;
       rows =
@@ -23,6 +24,7 @@ entering level decay active frequency remainder soak regs sums building backup k
             frequency = now (frequency .entry);
             remainder = now (remainder .entry);
             soak = now (soak .entry);
+            buckets = buckets;
           };
       regs = now (regs .entry);
       sums = now (sums .entry);
@@ -30,8 +32,8 @@ entering level decay active frequency remainder soak regs sums building backup k
       backup = now (backup .entry);
     }
 
-abbrev pub leaving : Row → Row → Row → Row → Row → Row → Row → Sums → Sums → Sums → Core → Stored
-leaving level decay active frequency remainder soak regs sums building backup k =
+abbrev pub leaving : Row → Row → Row → Row → Row → Row → Row → Sums → Sums → Sums → Buckets → Core → Stored
+leaving level decay active frequency remainder soak regs sums building backup buckets k =
     record {
       core = k;
       rows =
@@ -42,6 +44,7 @@ leaving level decay active frequency remainder soak regs sums building backup k 
             frequency = now (frequency .exit);
             remainder = now (remainder .exit);
             soak = now (soak .exit);
+            buckets = buckets;
           };
       regs = now (regs .exit);
       sums = now (sums .exit);
@@ -49,8 +52,9 @@ leaving level decay active frequency remainder soak regs sums building backup k 
       backup = now (backup .exit);
     }
 
--- what is said of them as a call begins and as it returns, each with a core
+-- what is said of them as a call begins and as it returns, each with a core, whatever the sets are
 abbrev pub across : Row → Row → Row → Row → Row → Row → Row → Sums → Sums → Sums → ((Core → Stored) → (Core → Stored) → Type 0) → Type 0
 across level decay active frequency remainder soak regs sums building backup says =
-    says (entering level decay active frequency remainder soak regs sums building backup)
-    (leaving level decay active frequency remainder soak regs sums building backup)
+    (buckets : Buckets)
+    → says (entering level decay active frequency remainder soak regs sums building backup buckets)
+    (leaving level decay active frequency remainder soak regs sums building backup buckets)

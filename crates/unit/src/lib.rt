@@ -14,6 +14,7 @@ ghost use Rattle.rules.specs.Sheet.{signedByte};
 ghost use Rattle.rules.specs.Events as events;
 ghost use Rattle.rules.specs.Events.{sampleLimit};
 ghost use Rattle.rules.specs.Run.{afterWrite};
+ghost use Rattle.buckets.specs.Bridge.{numbers, numbersOf};
 ghost use Rattle.inputs.specs.Bridge as rows;
 ghost use Rattle.inputs.specs.Bridge.{withFrequency, withSoak};
 ghost use Rattle.inputs.specs.declared.Monitors as stored;
@@ -73,12 +74,16 @@ fn on_tick(
     frequency: &[u16; 8],
     remainder: &mut [u16; 8],
     soak: &mut [u16; 8],
+    sizes: &[u16; 8],
+    highs: &[u16; 8],
+    lows: &[u16; 8],
+    spans: &[u16; 8],
     regs: &[u8; 27],
     keys: &[u16; 9],
     sums: &mut [i64; 64],
     building: &mut [i64; 64],
 ) -> Stepped
-    ensures { λ r. ⌜ rows.across level decay active (now (frequency .entry)) remainder soak (λ before after. (backup : List ℤ) → length (now (sums .entry)) ≡ 64 → now (keys .entry) ≡ keysFrom (settingsFrom (now (regs .entry))) → Gives (record { core = k; rows = before; regs = now (regs .entry); sums = now (sums .entry); building = now (building .entry); backup = backup }) (events.tick mask lock x) (r .refusal) (record { core = r .core; rows = after; regs = now (regs .entry); sums = now (sums .exit); building = now (building .exit); backup = backup })) ⌝ }
+    ensures { λ r. ⌜ rows.across level decay active (now (frequency .entry)) remainder soak (λ before after. (backup : List ℤ) → numbers (now (sizes .entry)) (now (highs .entry)) (now (lows .entry)) (now (spans .entry)) ≡ numbersOf (before .buckets) → length (now (sums .entry)) ≡ 64 → now (keys .entry) ≡ keysFrom (settingsFrom (now (regs .entry))) → Gives (record { core = k; rows = before; regs = now (regs .entry); sums = now (sums .entry); building = now (building .entry); backup = backup }) (events.tick mask lock x) (r .refusal) (record { core = r .core; rows = after; regs = now (regs .entry); sums = now (sums .exit); building = now (building .exit); backup = backup })) ⌝ }
 {
     let ok = in_range(x);
     if ok {
@@ -93,6 +98,10 @@ fn on_tick(
             frequency,
             remainder,
             soak,
+            sizes,
+            highs,
+            lows,
+            spans,
             regs,
             keys,
             sums,
@@ -208,7 +217,7 @@ fn on_write(
 
 // ---- an event
 
-// The rule `outcome`, with every array of the state lent, and the keys of the registers beside them. A write takes a copy of the core and its answer is
+// The rule `outcome`, with every array of the state lent but those of the sets, and beside them the numbers of each input's set and the keys of the registers. A write takes a copy of the core and its answer is
 // copied: lent to that call, the core would lie in memory at each tick.
 pub fn step(
     e: Event,
@@ -219,13 +228,17 @@ pub fn step(
     frequency: &mut [u16; 8],
     remainder: &mut [u16; 8],
     soak: &mut [u16; 8],
+    sizes: &[u16; 8],
+    highs: &[u16; 8],
+    lows: &[u16; 8],
+    spans: &[u16; 8],
     regs: &mut [u8; 27],
     keys: &mut [u16; 9],
     sums: &mut [i64; 64],
     building: &mut [i64; 64],
     backup: &mut [i64; 64],
 ) -> Stepped
-    ensures { λ r. ⌜ across level decay active frequency remainder soak regs sums building backup (λ before after. now (keys .entry) ≡ keysFrom (settingsFrom (now (regs .entry))) → Gives (before k) (eventOf e) (r .refusal) (after (r .core))) ⌝ }
+    ensures { λ r. ⌜ across level decay active frequency remainder soak regs sums building backup (λ before after. numbers (now (sizes .entry)) (now (highs .entry)) (now (lows .entry)) (now (spans .entry)) ≡ numbersOf (before k .rows .buckets) → now (keys .entry) ≡ keysFrom (settingsFrom (now (regs .entry))) → Gives (before k) (eventOf e) (r .refusal) (after (r .core))) ⌝ }
     ensures { λ _. ⌜ (now (keys .entry) ≡ keysFrom (settingsFrom (now (regs .entry))) → now (keys .exit) ≡ keysFrom (settingsFrom (now (regs .exit)))) ⌝ }
 {
     places(*sums);
@@ -242,6 +255,10 @@ pub fn step(
             frequency,
             remainder,
             soak,
+            sizes,
+            highs,
+            lows,
+            spans,
             regs,
             keys,
             sums,
@@ -352,6 +369,11 @@ pub fn handle(e: Event, u: Unit) -> Outcome
     let mut frequency = m.frequency;
     let mut remainder = m.remainder;
     let mut soak = m.soak;
+    let b = m.buckets;
+    let sizes = buckets::lanes(b.size, b.assigned);
+    let highs = buckets::lanes(b.high, b.assigned);
+    let lows = buckets::lanes(b.low, b.assigned);
+    let spans = buckets::lanes(b.span, b.assigned);
     let mut regs = u.regs;
     let h = u.history;
     let mut sums = h.sums;
@@ -367,6 +389,10 @@ pub fn handle(e: Event, u: Unit) -> Outcome
         &mut frequency,
         &mut remainder,
         &mut soak,
+        &sizes,
+        &highs,
+        &lows,
+        &spans,
         &mut regs,
         &mut keys,
         &mut sums,
@@ -387,6 +413,7 @@ pub fn handle(e: Event, u: Unit) -> Outcome
                 frequency: frequency,
                 remainder: remainder,
                 soak: soak,
+                buckets: b,
             },
             history: History {
                 tally: tally,

@@ -1,0 +1,46 @@
+-- From the stored numbers of the sets to the rules' sets and assignments.
+use Prim.Native.Nat.{ℕ, _%_}
+use mathlib.Core.List.{List, [], _∷_}
+use lib.ListN.{getD}
+use Rattle.rules.specs.Monitors.{Bucket}
+use Rattle.rules.specs.Buckets as rules
+use Rattle.buckets.specs.declared.Buckets.{Buckets}
+
+-- four and eight values, by their places
+abbrev pub four : {A : Type 0} → (ℕ → A) → List A
+four f = f 0 ∷ f 1 ∷ f 2 ∷ f 3 ∷ []
+
+abbrev pub eight : {A : Type 0} → (ℕ → A) → List A
+eight f = f 0 ∷ f 1 ∷ f 2 ∷ f 3 ∷ f 4 ∷ f 5 ∷ f 6 ∷ f 7 ∷ []
+
+-- the bucket at a place of four rows
+abbrev pub bucketAt : List ℕ → List ℕ → List ℕ → List ℕ → ℕ → Bucket
+bucketAt sizes highs lows spans k =
+    record { size = getD sizes k 0; setLevel = getD highs k 0; clearLevel = getD lows k 0; decayTicks = getD spans k 0 }
+
+-- the rules' sets that the rows hold; of a stored set number the two lowest bits count
+unfoldable pub bucketsOf : Buckets → rules.Buckets
+bucketsOf b =
+    record {
+      sets = four (bucketAt (b .size) (b .high) (b .low) (b .span));
+      assigned = eight (λ k. getD (b .assigned) k 0 % 4);
+    }
+
+-- ---- the numbers of each input
+
+-- four rows of eight: sizes, set levels, clear levels, and ticks of a decay
+pub record Numbers : Type 0 where
+  pub sizes : List ℕ
+  pub highs : List ℕ
+  pub lows : List ℕ
+  pub spans : List ℕ
+
+abbrev pub numbers : List ℕ → List ℕ → List ℕ → List ℕ → Numbers
+numbers sizes highs lows spans = record { sizes = sizes; highs = highs; lows = lows; spans = spans }
+
+-- for each input those of its set
+unfoldable pub numbersOf : Buckets → Numbers
+numbersOf b = numbers (eight (at (b .size))) (eight (at (b .high))) (eight (at (b .low))) (eight (at (b .span)))
+  where
+    at : List ℕ → ℕ → ℕ
+    at row k = getD row (getD (b .assigned) k 0 % 4) 0

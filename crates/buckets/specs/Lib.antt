@@ -1,0 +1,2 @@
+-- What the contracts of the sets cite.
+pub mod Bridge

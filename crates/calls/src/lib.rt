@@ -1,0 +1,58 @@
+// The calls of the host's that are no events of a run sheet (document 02, #104: setting and assigning a set of bucket numbers): a number, and the whole unit
+// after it. A refusal leaves every stored number as it was.
+// Each contract is an equation with the rule `outcome` through the unit's bridge.
+ghost use mathlib.Core.Path.{_≡_};
+ghost use Rattle.rules.specs.Events.{setBucket, assignBucket};
+ghost use Rattle.unit.specs.Bridge.{Gives, partsOf};
+use arith::wide16;
+use unit::Outcome;
+use unit::Unit;
+
+// Set n is set, or refusal 14.
+pub fn set_bucket(u: Unit, n: u8, size: u8, high: u8, low: u8, d: u8) -> Outcome
+    ensures { λ r. ⌜ Gives (partsOf u) (setBucket n size high low d) (r .refusal) (partsOf (r .unit)) ⌝ }
+{
+    let number = buckets::set_refusal(n, size, high, low, d);
+    if number == 0 {
+        let m = u.monitors;
+        let b = m.buckets;
+        let concerned = buckets::having(b.assigned, n);
+        let sets = buckets::with_set(b, n, size, high, low, d);
+        let rows = inputs::put_at_size(m, concerned, wide16(size), sets);
+        let mut next = u;
+        next.monitors = rows;
+        return Outcome {
+            refusal: 0,
+            unit: next,
+        };
+    }
+    Outcome {
+        refusal: number,
+        unit: u,
+    }
+}
+
+// Input i is assigned set n, or the first of refusals 6 and 14 that fits.
+pub fn assign_bucket(u: Unit, i: u8, n: u8) -> Outcome
+    ensures { λ r. ⌜ Gives (partsOf u) (assignBucket i n) (r .refusal) (partsOf (r .unit)) ⌝ }
+{
+    let number = buckets::assign_refusal(i, n);
+    if number == 0 {
+        let m = u.monitors;
+        let b = m.buckets;
+        let concerned = buckets::at_input([0; 8], i, 1);
+        let size = buckets::number_at(b.size, wide16(n));
+        let sets = buckets::with_assigned(b, i, n);
+        let rows = inputs::put_at_size(m, concerned, size, sets);
+        let mut next = u;
+        next.monitors = rows;
+        return Outcome {
+            refusal: 0,
+            unit: next,
+        };
+    }
+    Outcome {
+        refusal: number,
+        unit: u,
+    }
+}

@@ -1,0 +1,86 @@
+-- The calls of the host's (#104): a run sheet has none, and a list without one leaves the sets as they start.
+use Prim.Native.Nat.{ℕ, zero, suc, _+_}
+use mathlib.Core.Path.{_≡_, refl, _∙_}
+use mathlib.Core.Bool.{false, _&&_, true≢false}
+use mathlib.Core.List.{List, [], _∷_, _++_}
+use lib.Dec.{ltb, eqb}
+use lib.IntN.{ℤ}
+use lib.ListN.{getD, drop}
+use Rattle.rules.specs.Events.{Event, tick, measurement, hit, write, setBucket, assignBucket, isCall}
+use Rattle.rules.specs.State.{State}
+use Rattle.rules.specs.Tick.{steps1to4, step5, ticked}
+use Rattle.rules.specs.Registers.{freshFrom, fresh}
+use Rattle.rules.specs.Refusals.{accepted}
+use Rattle.rules.specs.Run.{afterMeasurement, afterHit, afterWrite, effect, next, run}
+use Rattle.rules.specs.Sheet.{word32, signedWord, Decoded, event, bad, isZero, tickOf, measurementOf, hitOf, writeOf, fields, decode, settingsCount, eventsAt, eventsCount, settingsOf, before, eventsOf, sheetEvents}
+use Rattle.rules.specs.Laws.{Callless, Untouched, NoCalls}
+use Rattle.rules.proofs.Tests.{if-case}
+
+-- ---- a run sheet
+
+-- decoded fields that are no call
+abbrev Plain : Decoded → Type 0
+Plain (event e) = isCall e ≡ false
+Plain bad = Unit {0}
+
+plain-fields : (kind a b : ℕ) (w : ℤ) → Plain (fields kind a b w)
+unfolding fields tickOf measurementOf hitOf writeOf
+plain-fields kind a b w =
+    if-case Plain (eqb kind 0) (λ e. if-case Plain (ltb 1 b) (λ t. tt) (λ t. refl))
+    (λ e. if-case Plain (eqb kind 1) (λ t. if-case Plain (isZero w) (λ u. refl) (λ u. tt))
+    (λ t. if-case Plain (eqb kind 2) (λ u. if-case Plain (eqb a 0 && eqb b 0 && isZero w) (λ v. refl) (λ v. tt))
+    (λ u. if-case Plain (eqb kind 3) (λ v. if-case Plain (isZero w) (λ z. refl) (λ z. tt)) (λ v. tt))))
+
+plain-decoded : (l : List ℕ) → Plain (decode l)
+unfolding decode
+plain-decoded l = if-case Plain (eqb (getD l 3 0) 0) (λ e. plain-fields (getD l 0 0) (getD l 1 0) (getD l 2 0) (signedWord (word32 l 4))) (λ e. tt)
+
+pub callless-append : (xs ys : List Event) → Callless xs → Callless ys → Callless (xs ++ ys)
+callless-append [] ys p q = q
+callless-append (e ∷ es) ys p q = (p .0, callless-append es ys (p .1) q)
+
+-- the first part of a list without a call
+pub callless-front : (xs ys : List Event) → Callless (xs ++ ys) → Callless xs
+callless-front [] ys p = tt
+callless-front (e ∷ es) ys p = (p .0, callless-front es ys (p .1))
+
+callless-settings : (k : ℕ) (l : List ℕ) → Callless (settingsOf k l)
+unfolding settingsOf
+callless-settings zero l = tt
+callless-settings (suc k) l = (refl, callless-settings k (drop 2 l))
+
+callless-before : (d : Decoded) (es : List Event) → Plain d → Callless es → Callless (before d es)
+unfolding before
+callless-before (event e) es p q = (p, q)
+callless-before bad es p q = tt
+
+callless-events : (k : ℕ) (l : List ℕ) → Callless (eventsOf k l)
+unfolding eventsOf
+callless-events zero l = tt
+callless-events (suc k) l = callless-before (decode l) (eventsOf k (drop 8 l)) (plain-decoded l) (callless-events k (drop 8 l))
+
+pub no-calls : NoCalls
+unfolding sheetEvents
+no-calls s =
+    callless-append (settingsOf (settingsCount s) (drop 2 s)) (eventsOf (eventsCount s) (drop (eventsAt s + 2) s))
+    (callless-settings (settingsCount s) (drop 2 s)) (callless-events (eventsCount s) (drop (eventsAt s + 2) s))
+
+-- ---- the sets
+
+kept-next : (s : State) (e : Event) → isCall e ≡ false → next s e .buckets ≡ s .buckets
+unfolding next effect ticked step5 steps1to4 afterMeasurement afterHit afterWrite
+kept-next s (tick mask lock x) p = if-case (λ (t : State). t .buckets ≡ s .buckets) (accepted s (tick mask lock x)) (λ e. refl) (λ e. refl)
+kept-next s (measurement i x) p = if-case (λ (t : State). t .buckets ≡ s .buckets) (accepted s (measurement i x)) (λ e. refl) (λ e. refl)
+kept-next s hit p = if-case (λ (t : State). t .buckets ≡ s .buckets) (accepted s hit) (λ e. refl) (λ e. refl)
+kept-next s (write a v) p = if-case (λ (t : State). t .buckets ≡ s .buckets) (accepted s (write a v)) (λ e. refl) (λ e. refl)
+kept-next s (setBucket n size setLevel clearLevel d) p = absurd (true≢false p)
+kept-next s (assignBucket i n) p = absurd (true≢false p)
+
+kept-run : (es : List Event) (s : State) → Callless es → run s es .buckets ≡ s .buckets
+unfolding run
+kept-run [] s p = refl
+kept-run (e ∷ es) s p = kept-run es (next s e) (p .1) ∙ kept-next s e (p .0)
+
+pub untouched : Untouched
+unfolding fresh freshFrom
+untouched es p = kept-run es fresh p
