@@ -5,6 +5,7 @@ use lib.ListN.{getD}
 use Rattle.rules.specs.Monitors.{Bucket}
 use Rattle.rules.specs.Buckets as rules
 use Rattle.buckets.specs.declared.Buckets.{Buckets}
+use Rattle.buckets.specs.declared.Numbers.{Numbers}
 
 -- four and eight values, by their places
 abbrev pub four : {A : Type 0} → (ℕ → A) → List A
@@ -29,18 +30,13 @@ bucketsOf b =
 -- ---- the numbers of each input
 
 -- four rows of eight: sizes, set levels, clear levels, and ticks of a decay
-pub record Numbers : Type 0 where
-  pub sizes : List ℕ
-  pub highs : List ℕ
-  pub lows : List ℕ
-  pub spans : List ℕ
-
 abbrev pub numbers : List ℕ → List ℕ → List ℕ → List ℕ → Numbers
 numbers sizes highs lows spans = record { sizes = sizes; highs = highs; lows = lows; spans = spans }
 
+-- a number of each input's set
+abbrev pub lane : List ℕ → List ℕ → ℕ → ℕ
+lane row assigned k = getD row (getD assigned k 0 % 4) 0
+
 -- for each input those of its set
 unfoldable pub numbersOf : Buckets → Numbers
-numbersOf b = numbers (eight (at (b .size))) (eight (at (b .high))) (eight (at (b .low))) (eight (at (b .span)))
-  where
-    at : List ℕ → ℕ → ℕ
-    at row k = getD row (getD (b .assigned) k 0 % 4) 0
+numbersOf b = numbers (eight (lane (b .size) (b .assigned))) (eight (lane (b .high) (b .assigned))) (eight (lane (b .low) (b .assigned))) (eight (lane (b .span) (b .assigned)))

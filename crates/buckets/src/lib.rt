@@ -1,7 +1,7 @@
 // The four sets of bucket numbers and the set of each input (document 02, #104): fresh, as a row of eight for the ticks, and set or assigned anew.
 // A set's numbers are its size, the level that sets the activity alarm, the level that clears it, and the ticks of a decay.
 ghost use mathlib.Core.Path.{_≡_};
-ghost use Prim.Native.Nat.{_%_, _^_, _≤_};
+ghost use Prim.Native.Nat.{_+_, _%_, _^_, _≤_};
 ghost use lib.Dec.{eqb};
 ghost use lib.ListN.{getD};
 ghost use Rattle.rules.specs.Words.{if_then_else_, isInput};
@@ -9,7 +9,7 @@ ghost use Rattle.rules.specs.Buckets as rules;
 ghost use Rattle.rules.specs.Buckets.{bucketFrom, freshBuckets, withSet, withAssigned};
 ghost use Rattle.rules.specs.Refusals.{setRefusal, assignRefusal};
 ghost use mathlib.Core.Bool.{true};
-ghost use Rattle.buckets.specs.Bridge.{four, eight, bucketsOf};
+ghost use Rattle.buckets.specs.Bridge.{four, eight, bucketsOf, numbersOf};
 use arith::both;
 use arith::either;
 use arith::one_to_eight;
@@ -48,7 +48,7 @@ pub fn number_at(row: [u16; 4], n: u16) -> u16
 }
 
 // For each input a number of its set.
-pub fn lanes(row: [u16; 4], assigned: [u16; 8]) -> [u16; 8]
+fn lanes(row: [u16; 4], assigned: [u16; 8]) -> [u16; 8]
     ensures { λ r. ⌜ r ≡ eight (λ k. getD row (getD assigned k 0 % 4) 0) ⌝ }
 {
     [
@@ -61,6 +61,35 @@ pub fn lanes(row: [u16; 4], assigned: [u16; 8]) -> [u16; 8]
         number_at(row, assigned[6]),
         number_at(row, assigned[7]),
     ]
+}
+
+// For each input the numbers of its set: sizes, set levels, clear levels, and ticks of a decay.
+pub struct Numbers {
+    pub sizes: [u16; 8],
+    pub highs: [u16; 8],
+    pub lows: [u16; 8],
+    pub spans: [u16; 8],
+}
+
+// The numbers that a tick takes: they follow from sets and assignments, and change by a call alone.
+pub fn numbers_of(b: Buckets) -> Numbers
+    ensures { λ r. ⌜ r ≡ numbersOf b ⌝ }
+{
+    let s = b.size;
+    let h = b.high;
+    let l = b.low;
+    let t = b.span;
+    let a = b.assigned;
+    let sizes = lanes(s, a);
+    let highs = lanes(h, a);
+    let lows = lanes(l, a);
+    let spans = lanes(t, a);
+    Numbers {
+        sizes: sizes,
+        highs: highs,
+        lows: lows,
+        spans: spans,
+    }
 }
 
 // The inputs that have set n: 1 for each, 0 for the others.
@@ -118,7 +147,7 @@ pub fn assign_refusal(i: u8, n: u8) -> u8
 
 // "decay of 2^d ticks", for d from 0 to 3.
 fn ticks_of(d: u8) -> u16
-    ensures { λ r. ⌜ d ≤ 3 → r ≡ 2 ^ d ⌝ }
+    ensures { λ r. ⌜ (d ≤ 3 → r ≡ 2 ^ d) ⌝ }
 {
     if d == 0 {
         return 1;
@@ -146,13 +175,17 @@ fn put(row: [u16; 4], n: u8, v: u16) -> [u16; 4]
 
 // The rule `withSet`, of a set and numbers within the bounds.
 pub fn with_set(b: Buckets, n: u8, size: u8, high: u8, low: u8, d: u8) -> Buckets
-    ensures { λ r. ⌜ n ≤ 3 → d ≤ 3 → bucketsOf r ≡ withSet n (bucketFrom size high low d) (bucketsOf b) ⌝ }
+    ensures { λ r. ⌜ (n ≤ 3 → d ≤ 3 → bucketsOf r ≡ withSet n (bucketFrom size high low d) (bucketsOf b)) ⌝ }
 {
-    let sizes = put(b.size, n, wide16(size));
-    let highs = put(b.high, n, wide16(high));
-    let lows = put(b.low, n, wide16(low));
-    let spans = put(b.span, n, ticks_of(d));
+    let s = b.size;
+    let h = b.high;
+    let l = b.low;
+    let t = b.span;
     let assigned = b.assigned;
+    let sizes = put(s, n, wide16(size));
+    let highs = put(h, n, wide16(high));
+    let lows = put(l, n, wide16(low));
+    let spans = put(t, n, ticks_of(d));
     Buckets {
         size: sizes,
         high: highs,
@@ -180,13 +213,14 @@ pub fn at_input(row: [u16; 8], i: u8, v: u16) -> [u16; 8]
 
 // The rule `withAssigned`, of an input 1 to 8 and a set 0 to 3.
 pub fn with_assigned(b: Buckets, i: u8, n: u8) -> Buckets
-    ensures { λ r. ⌜ isInput i ≡ true → n ≤ 3 → bucketsOf r ≡ withAssigned i n (bucketsOf b) ⌝ }
+    ensures { λ r. ⌜ (isInput i ≡ true → n ≤ 3 → bucketsOf r ≡ withAssigned i n (bucketsOf b)) ⌝ }
 {
     let sizes = b.size;
     let highs = b.high;
     let lows = b.low;
     let spans = b.span;
-    let assigned = at_input(b.assigned, i, wide16(n));
+    let a = b.assigned;
+    let assigned = at_input(a, i, wide16(n));
     Buckets {
         size: sizes,
         high: highs,

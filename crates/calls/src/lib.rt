@@ -16,7 +16,8 @@ pub fn set_bucket(u: Unit, n: u8, size: u8, high: u8, low: u8, d: u8) -> Outcome
     if number == 0 {
         let m = u.monitors;
         let b = m.buckets;
-        let concerned = buckets::having(b.assigned, n);
+        let assigned = b.assigned;
+        let concerned = buckets::having(assigned, n);
         let sets = buckets::with_set(b, n, size, high, low, d);
         let rows = inputs::put_at_size(m, concerned, wide16(size), sets);
         let mut next = u;
@@ -40,8 +41,10 @@ pub fn assign_bucket(u: Unit, i: u8, n: u8) -> Outcome
     if number == 0 {
         let m = u.monitors;
         let b = m.buckets;
-        let concerned = buckets::at_input([0; 8], i, 1);
-        let size = buckets::number_at(b.size, wide16(n));
+        let none = [0; 8];
+        let concerned = buckets::at_input(none, i, 1);
+        let row = b.size;
+        let size = buckets::number_at(row, wide16(n));
         let sets = buckets::with_assigned(b, i, n);
         let rows = inputs::put_at_size(m, concerned, size, sets);
         let mut next = u;

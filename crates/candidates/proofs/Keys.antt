@@ -13,7 +13,8 @@ use Rattle.rules.specs.Monitors.{qualified, fullSoak}
 use Rattle.rules.specs.Settings.{Settings, priority, usable, ahead}
 use Rattle.rules.specs.Selection.{Inputs, input, available, candidate, bestUpTo, best}
 use Rattle.inputs.specs.declared.Monitors.{Monitors}
-use Rattle.inputs.specs.Bridge.{eight, inputsOf, withSoak}
+use Rattle.buckets.specs.Bridge.{eight}
+use Rattle.inputs.specs.Bridge.{inputsOf, withSoak}
 use Rattle.candidates.specs.Keys.{noKey, settingsKey, keysFrom, keyOf, leastKey}
 
 -- ---- the least of nine, halves compared with halves

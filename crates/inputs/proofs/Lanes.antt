@@ -1,18 +1,19 @@
 -- The stored numbers by place, and the rules' list of inputs.
 use Prim.Native.Nat.{ℕ, zero, suc, _-_, _≤_, _<_}
 use mathlib.Core.Path.{_≡_, refl, ap, sym, _∙_}
-use mathlib.Core.Bool.{Bool, _&&_}
+use mathlib.Core.Bool.{Bool, true, false, _&&_}
 use mathlib.Core.List.{List}
 use native.Mathlib.Omega.{arith}
 use lib.Dec.{eqb}
 use lib.ListN.{length, getD, set, length-set}
 use lib.Seq.{ext-getD, getD-set-same, getD-set-other}
 use borrow.Author.Tests.{eqb-true, eqb-false}
-use Rattle.rules.specs.Words.{isInput}
-use Rattle.rules.specs.Monitors.{Input, fullSoak, qualified, freshInput}
+use Rattle.rules.specs.Words.{if_then_else_, isInput}
+use Rattle.rules.specs.Monitors.{Input, fullSoak, qualified, atSize, freshInput}
 use Rattle.rules.specs.Selection.{input, altered}
 use Rattle.rules.proofs.Tests.{by-test, is-between}
-use Rattle.inputs.specs.Bridge.{inputAt, eight, inputsOf}
+use Rattle.buckets.specs.Bridge.{eight}
+use Rattle.inputs.specs.Bridge.{isSet, inputAt, inputsOf}
 use Rattle.inputs.specs.declared.Monitors.{Monitors}
 
 -- ---- an input read
@@ -69,3 +70,25 @@ altered-lane f m r i {k} e same other =
     eight-set (inputAt m) (inputAt r) k (f (getD (inputsOf m) k freshInput))
     (λ h. same h ∙ ap f (sym (input-at m k h))) other
     ∙ rw e
+
+-- ---- an input put at its size
+
+-- number by number, where the test t says that it is concerned
+pub put-place : (t : Bool) (size level decay active : ℕ) (frequency : Bool) (remainder soak : ℕ)
+    → _≡_ {A = Input}
+    (record {
+      activity = record { level = if t then size else level; decay = if t then 0 else decay; alarm = isSet (if t then 1 else active) };
+      frequency = frequency;
+      remainder = remainder;
+      soak = soak;
+    })
+    (let x : Input = record {
+      activity = record { level = level; decay = decay; alarm = isSet active };
+      frequency = frequency;
+      remainder = remainder;
+      soak = soak;
+    } in
+    if t then atSize size x else x)
+unfolding atSize
+put-place true size level decay active frequency remainder soak = refl
+put-place false size level decay active frequency remainder soak = refl

@@ -164,9 +164,12 @@ fn replaced(concerned: [u16; 8], v: u16, row: [u16; 8]) -> [u16; 8]
 pub fn put_at_size(m: Monitors, concerned: [u16; 8], size: u16, b: Buckets) -> Monitors
     ensures { λ r. ⌜ (inputsOf r ≡ putAtSize (λ i. isSet (ListN.getD concerned (i - 1) 0)) size (inputsOf m)) × (r .buckets ≡ b) ⌝ }
 {
-    let level = replaced(concerned, size, m.level);
-    let decay = replaced(concerned, 0, m.decay);
-    let active = replaced(concerned, 1, m.active);
+    let l = m.level;
+    let d = m.decay;
+    let a = m.active;
+    let level = replaced(concerned, size, l);
+    let decay = replaced(concerned, 0, d);
+    let active = replaced(concerned, 1, a);
     let frequency = m.frequency;
     let remainder = m.remainder;
     let soak = m.soak;

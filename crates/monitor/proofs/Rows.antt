@@ -7,11 +7,13 @@ use lib.Dec.{leb, eqb}
 use lib.ListN.{getD}
 use borrow.Author.Tests.{ne-eqb}
 use Rattle.rules.specs.Words.{bit}
-use Rattle.rules.specs.Monitors.{Input, bucket, levelAfter, decayAfter, alarmAfter, activityAfter, good, soakAfter, monitored}
+use Rattle.rules.specs.Monitors.{Input, levelAfter, decayAfter, alarmAfter, activityAfter, good, soakAfter, monitored}
 use Rattle.rules.specs.Selection.{eachFrom}
 use Rattle.rules.specs.Tick as Tick
 use Rattle.arith.proofs.Laws.{if-map-2}
-use Rattle.inputs.specs.Bridge.{isSet, inputAt, eight, inputsOf}
+use Rattle.buckets.specs.Bridge.{eight, bucketAt}
+use Rattle.buckets.specs.declared.Numbers.{Numbers}
+use Rattle.inputs.specs.Bridge.{isSet, inputAt, inputsOf}
 use Rattle.inputs.specs.declared.Monitors.{Monitors}
 use Rattle.monitor.specs.Rows.{weight, activeAfter}
 
@@ -29,21 +31,21 @@ unfolding bit
 weight-bit mask k = weighed (mask / 2 ^ k % 2) (2 ^ k) (mod-lt (mask / 2 ^ k) (omega arith)) (one-le-pow k 2 (omega arith))
 
 -- the alarm is read out of the two choices
-active-alarm : (level active : ℕ) → isSet (activeAfter level active) ≡ alarmAfter bucket level (isSet active)
-unfolding bucket activeAfter alarmAfter
-active-alarm level active = if-map-2 isSet (leb (bucket .setLevel) level) (leb level (bucket .clearLevel)) 1 0 active refl refl
+active-alarm : (high low level active : ℕ) → isSet (activeAfter high low level active) ≡ alarmAfter high low level (isSet active)
+unfolding activeAfter alarmAfter
+active-alarm high low level active = if-map-2 isSet (leb high level) (leb level low) 1 0 active refl refl
 
 -- ---- the new numbers at a place
 
-module _ (mask : ℕ) (m : Monitors) where
+module _ (n : Numbers) (mask : ℕ) (m : Monitors) where
   abbrev levelAt : ℕ → ℕ
-  levelAt k = levelAfter bucket (isSet (weight mask k)) (getD (m .level) k 0) (getD (m .decay) k 0)
+  levelAt k = levelAfter (getD (n .sizes) k 0) (getD (n .spans) k 0) (isSet (weight mask k)) (getD (m .level) k 0) (getD (m .decay) k 0)
 
   abbrev decayAt : ℕ → ℕ
-  decayAt k = decayAfter bucket (isSet (weight mask k)) (getD (m .decay) k 0)
+  decayAt k = decayAfter (getD (n .spans) k 0) (isSet (weight mask k)) (getD (m .decay) k 0)
 
   abbrev activeAt : ℕ → ℕ
-  activeAt k = activeAfter (levelAt k) (getD (m .active) k 0)
+  activeAt k = activeAfter (getD (n .highs) k 0) (getD (n .lows) k 0) (levelAt k) (getD (m .active) k 0)
 
   abbrev remainderAt : ℕ → ℕ
   remainderAt k = getD (m .remainder) k 0 - 1
@@ -60,6 +62,7 @@ module _ (mask : ℕ) (m : Monitors) where
         frequency = m .frequency;
         remainder = eight remainderAt;
         soak = eight soakAt;
+        buckets = m .buckets;
       }
 
   -- the input of the new numbers at a place is the rule's
@@ -71,21 +74,25 @@ module _ (mask : ℕ) (m : Monitors) where
         remainder = remainderAt k;
         soak = soakAt k;
       })
-      (monitored bucket (bit mask k) (inputAt m k))
+      (monitored (bucketAt (n .sizes) (n .highs) (n .lows) (n .spans) k) (bit mask k) (inputAt m k))
   unfolding activityAfter monitored
   place-after k =
       let bad = weight-bit mask k in
-      let level : levelAt k ≡ levelAfter bucket (bit mask k) (getD (m .level) k 0) (getD (m .decay) k 0) =
-      λ i. levelAfter bucket (bad i) (getD (m .level) k 0) (getD (m .decay) k 0) in
-      let alarm = active-alarm (levelAt k) (getD (m .active) k 0) ∙ (λ i. alarmAfter bucket (level i) (isSet (getD (m .active) k 0))) in
+      let size = getD (n .sizes) k 0 in
+      let high = getD (n .highs) k 0 in
+      let low = getD (n .lows) k 0 in
+      let span = getD (n .spans) k 0 in
+      let level : levelAt k ≡ levelAfter size span (bit mask k) (getD (m .level) k 0) (getD (m .decay) k 0) =
+      λ i. levelAfter size span (bad i) (getD (m .level) k 0) (getD (m .decay) k 0) in
+      let alarm = active-alarm high low (levelAt k) (getD (m .active) k 0) ∙ (λ i. alarmAfter high low (level i) (isSet (getD (m .active) k 0))) in
       let frequency = isSet (getD (m .frequency) k 0) in
       λ i. record {
-        activity = record { level = level i; decay = decayAfter bucket (bad i) (getD (m .decay) k 0); alarm = alarm i };
+        activity = record { level = level i; decay = decayAfter span (bad i) (getD (m .decay) k 0); alarm = alarm i };
         frequency = frequency;
         remainder = remainderAt k;
         soak = soakAfter (good (alarm i) frequency (remainderAt k)) (getD (m .soak) k 0);
       }
 
-  pub rows-after : inputsOf after ≡ Tick.watched mask (inputsOf m)
+  pub rows-after : inputsOf after ≡ Tick.watched (λ i. bucketAt (n .sizes) (n .highs) (n .lows) (n .spans) (i - 1)) mask (inputsOf m)
   unfolding inputsOf Tick.watched eachFrom
   rows-after i = eight (λ k. place-after k i)

@@ -185,9 +185,13 @@ pub fn watched(
     let f0 = *frequency;
     let r0 = *remainder;
     let s0 = *soak;
-    let l = level_row(*sizes, *spans, b, l0, d0);
-    let d = decay_row(*spans, b, d0);
-    let a = active_row(*highs, *lows, l, a0);
+    let size = *sizes;
+    let high = *highs;
+    let low = *lows;
+    let span = *spans;
+    let l = level_row(size, span, b, l0, d0);
+    let d = decay_row(span, b, d0);
+    let a = active_row(high, low, l, a0);
     let r = remainder_row(r0);
     let s = soak_row(a, f0, r, s0);
     *level = l;

@@ -100,10 +100,11 @@ fn run_events(
     let mut remainder = m.remainder;
     let mut soak = m.soak;
     let b = m.buckets;
-    let sizes = buckets::lanes(b.size, b.assigned);
-    let highs = buckets::lanes(b.high, b.assigned);
-    let lows = buckets::lanes(b.low, b.assigned);
-    let spans = buckets::lanes(b.span, b.assigned);
+    let numbers = buckets::numbers_of(b);
+    let sizes = numbers.sizes;
+    let highs = numbers.highs;
+    let lows = numbers.lows;
+    let spans = numbers.spans;
     let mut k = start;
     let mut i = 0;
     while i < n {

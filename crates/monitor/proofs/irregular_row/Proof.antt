@@ -2,7 +2,7 @@
 use Prim.Native.Nat.{ℕ}
 use mathlib.Core.Path.{ap}
 use borrow.Author.Needs.{needs}
-use Rattle.inputs.specs.Bridge.{eight}
+use Rattle.buckets.specs.Bridge.{eight}
 use Rattle.monitor.specs.Rows.{weight}
 use Rattle.monitor.proofs.irregular_row.Statement.{statement}
 use Rattle.monitor.proofs.irregular_row.Tie as tie

@@ -1,12 +1,12 @@
 -- The rule's two choices, with what each call ensures.
 use mathlib.Core.Path.{_∙_}
 use Rattle.rules.specs.Words.{if_then_else_}
-use Rattle.rules.specs.Monitors.{bucket, levelAfter}
+use Rattle.rules.specs.Monitors.{levelAfter}
 use Rattle.monitor.proofs.level_of.Statement.{statement}
 use Rattle.monitor.proofs.level_of.Tie as tie
 
 returns : tie.Need-returns
-unfolding bucket levelAfter
+unfolding levelAfter
 returns c =
     let e = c .before in
     let d = e .before in

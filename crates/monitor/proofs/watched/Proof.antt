@@ -2,8 +2,10 @@
 use mathlib.Core.Path.{_∙_}
 use lib.ListN.{getD}
 use denote.Ref.{now}
-use Rattle.rules.specs.Monitors.{bucket, levelAfter, decayAfter, good, soakAfter}
-use Rattle.inputs.specs.Bridge.{isSet, eight, inputsOf}
+use Rattle.rules.specs.Monitors.{levelAfter, decayAfter, good, soakAfter}
+use Rattle.buckets.specs.Bridge.{eight, numbers}
+use Rattle.buckets.specs.declared.Numbers.{Numbers}
+use Rattle.inputs.specs.Bridge.{isSet, inputsOf}
 use Rattle.inputs.specs.declared.Monitors.{Monitors}
 use Rattle.monitor.specs.Rows.{activeAfter}
 use Rattle.monitor.proofs.Rows.{rows-after}
@@ -11,12 +13,12 @@ use Rattle.monitor.proofs.watched.Statement.{statement}
 use Rattle.monitor.proofs.watched.Tie as tie
 
 returns : tie.Need-returns
-returns c =
+returns c buckets =
     let cr = c .before in
     let ca = cr .before in
     let cd = ca .before in
     let cl = cd .before in
-    let cb = cl .before .before .before .before .before .before .before in
+    let cb = cl .before .before .before .before .before .before .before .before .before .before .before in
     let x = cb .before .args in
     let m : Monitors = record {
       level = now (x .level);
@@ -25,12 +27,14 @@ returns c =
       frequency = now (x .frequency);
       remainder = now (x .remainder);
       soak = now (x .soak);
+      buckets = buckets;
     } in
+    let n : Numbers = numbers (now (x .sizes)) (now (x .highs)) (now (x .lows)) (now (x .spans)) in
     let b = cb .irregular-row .ensures in
     let level = cl .level-row .ensures
-    ∙ (λ i. eight (λ k. levelAfter bucket (isSet (getD (b i) k 0)) (getD (m .level) k 0) (getD (m .decay) k 0))) in
-    let decay = cd .decay-row .ensures ∙ (λ i. eight (λ k. decayAfter bucket (isSet (getD (b i) k 0)) (getD (m .decay) k 0))) in
-    let active = ca .active-row .ensures ∙ (λ i. eight (λ k. activeAfter (getD (level i) k 0) (getD (m .active) k 0))) in
+    ∙ (λ i. eight (λ k. levelAfter (getD (n .sizes) k 0) (getD (n .spans) k 0) (isSet (getD (b i) k 0)) (getD (m .level) k 0) (getD (m .decay) k 0))) in
+    let decay = cd .decay-row .ensures ∙ (λ i. eight (λ k. decayAfter (getD (n .spans) k 0) (isSet (getD (b i) k 0)) (getD (m .decay) k 0))) in
+    let active = ca .active-row .ensures ∙ (λ i. eight (λ k. activeAfter (getD (n .highs) k 0) (getD (n .lows) k 0) (getD (level i) k 0) (getD (m .active) k 0))) in
     let remainder = cr .remainder-row .ensures in
     let soak = c .soak-row .ensures
     ∙ (λ i. eight (λ k. soakAfter (good (isSet (getD (active i) k 0)) (isSet (getD (m .frequency) k 0)) (getD (remainder i) k 0)) (getD (m .soak) k 0))) in
@@ -41,8 +45,9 @@ returns c =
       frequency = m .frequency;
       remainder = remainder i;
       soak = soak i;
+      buckets = buckets;
     }))
-    ∙ rows-after (x .mask) m
+    ∙ rows-after n (x .mask) m
 
 pub watched-spec : {M : Type 1} → statement M
 watched-spec =

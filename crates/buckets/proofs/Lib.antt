@@ -1,0 +1,2 @@
+-- The proofs of the sets.
+pub mod Sets

@@ -1,0 +1,51 @@
+-- One place of four or of eight replaced: by a choice at each place, and by the rules' `set`.
+use Prim.Native.Nat.{ℕ, zero, suc, _+_, _-_, _%_, _≤_}
+use mathlib.Core.Path.{_≡_, refl, sym, _∙_}
+use mathlib.Core.Bool.{Bool, true, false, false≢true}
+use native.Mathlib.Omega.{arith}
+use native.Mathlib.Nat.{mod-eq-of-lt}
+use lib.Dec.{eqb}
+use lib.ListN.{set}
+use Rattle.rules.specs.Words.{if_then_else_, isInput}
+use Rattle.rules.specs.Monitors.{Bucket}
+use Rattle.rules.proofs.Tests.{high}
+use Rattle.buckets.specs.Bridge.{four, eight}
+
+pub set-four : {A : Type 0} (f : ℕ → A) (n : ℕ) (v : A) → n ≤ 3 → four (λ k. if eqb n k then v else f k) ≡ set (four f) n v
+set-four f zero v h = refl
+set-four f (suc zero) v h = refl
+set-four f (suc (suc zero)) v h = refl
+set-four f (suc (suc (suc zero))) v h = refl
+set-four f (suc (suc (suc (suc n)))) v h = absurd (omega arith)
+
+pub set-eight : {A : Type 0} (f : ℕ → A) (i : ℕ) (v : A) → isInput i ≡ true → eight (λ k. if eqb i (k + 1) then v else f k) ≡ set (eight f) (i - 1) v
+set-eight f zero v h = absurd (false≢true h)
+set-eight f (suc zero) v h = refl
+set-eight f (suc (suc zero)) v h = refl
+set-eight f (suc (suc (suc zero))) v h = refl
+set-eight f (suc (suc (suc (suc zero)))) v h = refl
+set-eight f (suc (suc (suc (suc (suc zero))))) v h = refl
+set-eight f (suc (suc (suc (suc (suc (suc zero)))))) v h = refl
+set-eight f (suc (suc (suc (suc (suc (suc (suc zero))))))) v h = refl
+set-eight f (suc (suc (suc (suc (suc (suc (suc (suc zero)))))))) v h = refl
+set-eight f (suc (suc (suc (suc (suc (suc (suc (suc (suc i))))))))) v h =
+    let most : suc (suc (suc (suc (suc (suc (suc (suc (suc i)))))))) ≤ 8 = high 1 8 _ h in
+    absurd (omega arith)
+
+-- a bucket chosen number by number
+pub bucket-if : (t : Bool) (b c : Bucket)
+    → _≡_ {A = Bucket}
+    (record {
+      size = if t then b .size else c .size;
+      setLevel = if t then b .setLevel else c .setLevel;
+      clearLevel = if t then b .clearLevel else c .clearLevel;
+      decayTicks = if t then b .decayTicks else c .decayTicks;
+    })
+    (if t then b else c)
+bucket-if true b c = refl
+bucket-if false b c = refl
+
+-- a set number 0 to 3 has no higher bits
+pub set-number : (t : Bool) (n x : ℕ) → n ≤ 3 → (if t then n else x) % 4 ≡ (if t then n else x % 4)
+set-number true n x h = omega arith
+set-number false n x h = refl

@@ -1,0 +1,27 @@
+-- Each number is what its call ensures.
+use mathlib.Core.List.{[], _∷_}
+use borrow.Author.Needs.{needs}
+use Rattle.buckets.proofs.put.Statement.{statement}
+use Rattle.buckets.proofs.put.Tie as tie
+
+returns : tie.Need-returns
+returns c =
+    λ i. c .before .before .before .either .ensures i
+    ∷ c .before .before .either2 .ensures i
+    ∷ c .before .either3 .ensures i
+    ∷ c .either4 .ensures i
+    ∷ []
+
+pub put-spec : {M : Type 1} → statement M
+put-spec =
+    tie.close
+    (tie.spec
+    (search needs)
+    (λ c κs. tt)
+    (search needs)
+    (λ c κs. tt)
+    (search needs)
+    (λ c κs. tt)
+    (search needs)
+    (λ c κs. tt)
+    returns)
