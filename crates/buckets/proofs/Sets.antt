@@ -1,15 +1,17 @@
 -- One place of four or of eight replaced: by a choice at each place, and by the rules' `set`.
-use Prim.Native.Nat.{ℕ, zero, suc, _+_, _-_, _%_, _≤_}
-use mathlib.Core.Path.{_≡_, refl, sym, _∙_}
+use Prim.Native.Nat.{ℕ, zero, suc, _+_, _-_, _%_, _≤_, _<_}
+use mathlib.Core.Path.{_≡_, refl, sym}
 use mathlib.Core.Bool.{Bool, true, false, false≢true}
 use native.Mathlib.Omega.{arith}
-use native.Mathlib.Nat.{mod-eq-of-lt}
+use native.Mathlib.Nat.{mod-lt}
 use lib.Dec.{eqb}
-use lib.ListN.{set}
+use lib.ListN.{getD, set}
 use Rattle.rules.specs.Words.{if_then_else_, isInput}
 use Rattle.rules.specs.Monitors.{Bucket}
+use Rattle.rules.specs.Buckets.{startBucket}
 use Rattle.rules.proofs.Tests.{high}
-use Rattle.buckets.specs.Bridge.{four, eight}
+use Rattle.buckets.specs.Bridge.{four, eight, bucketAt, bucketsOf}
+use Rattle.buckets.specs.declared.Buckets.{Buckets}
 
 pub set-four : {A : Type 0} (f : ℕ → A) (n : ℕ) (v : A) → n ≤ 3 → four (λ k. if eqb n k then v else f k) ≡ set (four f) n v
 set-four f zero v h = refl
@@ -49,3 +51,17 @@ bucket-if false b c = refl
 pub set-number : (t : Bool) (n x : ℕ) → n ≤ 3 → (if t then n else x) % 4 ≡ (if t then n else x % 4)
 set-number true n x h = omega arith
 set-number false n x h = refl
+
+-- ---- the bucket of an input
+
+four-at : {A : Type 0} (f : ℕ → A) (d : A) (n : ℕ) → n < 4 → getD (four f) n d ≡ f n
+four-at f d zero h = refl
+four-at f d (suc zero) h = refl
+four-at f d (suc (suc zero)) h = refl
+four-at f d (suc (suc (suc zero))) h = refl
+four-at f d (suc (suc (suc (suc n)))) h = absurd (omega arith)
+
+-- number by number from the rows at its set's place, and from the rules' sets
+pub set-at : (b : Buckets) (n : ℕ) → bucketAt (b .size) (b .high) (b .low) (b .span) (n % 4) ≡ getD (bucketsOf b .sets) (n % 4) startBucket
+unfolding bucketsOf
+set-at b n = sym (four-at (bucketAt (b .size) (b .high) (b .low) (b .span)) startBucket (n % 4) (mod-lt n (omega arith)))

@@ -9,10 +9,13 @@ use borrow.Author.Tests.{ne-eqb}
 use Rattle.rules.specs.Words.{bit}
 use Rattle.rules.specs.Monitors.{Input, levelAfter, decayAfter, alarmAfter, activityAfter, good, soakAfter, monitored}
 use Rattle.rules.specs.Selection.{eachFrom}
+use Rattle.rules.specs.Buckets.{bucketOf}
 use Rattle.rules.specs.Tick as Tick
 use Rattle.arith.proofs.Laws.{if-map-2}
-use Rattle.buckets.specs.Bridge.{eight, bucketAt}
+use Rattle.buckets.specs.Bridge.{eight, bucketAt, bucketsOf, numbersOf}
+use Rattle.buckets.specs.declared.Buckets.{Buckets}
 use Rattle.buckets.specs.declared.Numbers.{Numbers}
+use Rattle.buckets.proofs.Sets.{set-at}
 use Rattle.inputs.specs.Bridge.{isSet, inputAt, inputsOf}
 use Rattle.inputs.specs.declared.Monitors.{Monitors}
 use Rattle.monitor.specs.Rows.{weight, activeAfter}
@@ -96,3 +99,11 @@ module _ (n : Numbers) (mask : ℕ) (m : Monitors) where
   pub rows-after : inputsOf after ≡ Tick.watched (λ i. bucketAt (n .sizes) (n .highs) (n .lows) (n .spans) (i - 1)) mask (inputsOf m)
   unfolding inputsOf Tick.watched eachFrom
   rows-after i = eight (λ k. place-after k i)
+
+-- ---- the numbers of each input's set are its bucket
+
+pub watched-by : (b : Buckets) (mask : ℕ) (m : Monitors)
+    → let n = numbersOf b in
+    Tick.watched (λ i. bucketAt (n .sizes) (n .highs) (n .lows) (n .spans) (i - 1)) mask (inputsOf m) ≡ Tick.watched (bucketOf (bucketsOf b)) mask (inputsOf m)
+unfolding inputsOf numbersOf bucketsOf Tick.watched eachFrom
+watched-by b mask m i = eight (λ k. monitored (set-at b (getD (b .assigned) k 0) i) (bit mask k) (inputAt m k))

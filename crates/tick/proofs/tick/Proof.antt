@@ -1,4 +1,5 @@
 -- The five steps in order: what each leaves is what the next begins with.
+use Prim.Native.Nat.{_-_}
 use mathlib.Core.Bool.{_&&_}
 use mathlib.Core.Path.{ap, _∙_}
 use denote.Ref.{now}
@@ -8,10 +9,13 @@ use Rattle.rules.specs.Monitors.{lockAlarmed}
 use Rattle.rules.specs.Pll.{locked, is, alarmDue}
 use Rattle.rules.specs.Registers.{settingsFrom}
 use Rattle.rules.specs.Selection.{Inputs, altered, chosen, steered}
-use Rattle.rules.specs.Tick.{inputsAfter, loopAfter, steps1to4, step5, holdingAfter, ticked}
+use Rattle.rules.specs.Tick.{watched, watchedAfter, inputsAfter, loopAfter, steps1to4, step5, holdingAfter, ticked}
 use Rattle.rules.specs.Words.{if_then_else_, isTracked}
-use Rattle.inputs.specs.Bridge.{withLockAlarms}
+use Rattle.buckets.specs.Bridge.{bucketAt, bucketsOf}
+use Rattle.buckets.specs.declared.Buckets.{Buckets}
+use Rattle.inputs.specs.Bridge.{inputsOf, withLockAlarms}
 use Rattle.inputs.specs.declared.Monitors.{Monitors}
+use Rattle.monitor.proofs.Rows.{watched-by}
 use Rattle.history.specs.Bridge.{historyOf}
 use Rattle.pll.specs.Bridge.{modeOf}
 use Rattle.selection.specs.Bridge.{choiceOf}
@@ -19,8 +23,8 @@ use Rattle.tick.proofs.tick.Statement.{statement}
 use Rattle.tick.proofs.tick.Tie as tie
 
 -- the rows after steps 1 and 2
-abbrev watchedRows : tie.After-watched → Monitors
-watchedRows c =
+abbrev watchedRows : tie.After-watched → Buckets → Monitors
+watchedRows c buckets =
     let rows = c .watched .last in
     record {
       level = rows .1 .0;
@@ -29,11 +33,12 @@ watchedRows c =
       frequency = now (c .before .before .before .before .before .before .args .frequency);
       remainder = rows .1 .1 .1 .1 .1 .0;
       soak = rows .1 .1 .1 .1 .1 .1 .0;
+      buckets = buckets;
     }
 
 returns : tie.Need-returns
-unfolding inputsAfter loopAfter steps1to4 step5 ticked
-returns c backup h e =
+unfolding watchedAfter inputsAfter loopAfter steps1to4 step5 ticked
+returns c buckets backup lanes h e =
     let kept = c .before .before .before in
     let held = kept .before .before in
     let turned = held .before in
@@ -49,10 +54,22 @@ returns c backup h e =
     let k = a .k in
     let selected = k .choice .selected in
     let set = settingsFrom (now (a .regs)) in
-    let rows = watchedRows watching in
+    let rows = watchedRows watching buckets in
+    let before : Monitors = record {
+      level = now (a .level);
+      decay = now (a .decay);
+      active = now (a .active);
+      frequency = now (a .frequency);
+      remainder = now (a .remainder);
+      soak = now (a .soak);
+      buckets = buckets;
+    } in
+    let seen = watching .watched .ensures buckets
+    ∙ (λ i. watched (λ j. bucketAt (lanes i .sizes) (lanes i .highs) (lanes i .lows) (lanes i .spans) (j - 1)) (a .mask) (inputsOf before))
+    ∙ watched-by buckets (a .mask) before in
     let loop = driven .looped .ensures in
     let inputs = alarms .alarmed .ensures rows
-    ∙ (λ i. if isTracked selected && alarmDue (loop i) then altered lockAlarmed selected (watching .watched .ensures i) else watching .watched .ensures i) in
+    ∙ (λ i. if isTracked selected && alarmDue (loop i) then altered lockAlarmed selected (seen i) else seen i) in
     let after = withLockAlarms rows (alarms .alarmed .last .1 .1 .0) (alarms .alarmed .last .1 .1 .1 .0) in
     let choice = choosing .chosen .ensures after e ∙ ap (λ (l : Inputs). chosen set l (choiceOf (k .choice))) inputs in
     let steering = turned .steered .ensures
@@ -63,6 +80,7 @@ returns c backup h e =
     ∙ (λ i. recorded (kept .before .setting2 .ensures i) (choice i .selected) (tracked i) (toZ-ofZ (start .fits .x) i) (historyOf (k .tally) (now (a .sums)) (now (a .building)) backup)) in
     λ i. record {
       inputs = inputs i;
+      buckets = bucketsOf buckets;
       settings = set;
       loop = steering i;
       choice = choice i;

@@ -8,7 +8,8 @@ returns : tie.Need-returns
 unfolding fresh freshFrom
 returns c =
     λ i. record {
-      inputs = c .before .before .before .before .fresh-monitors .ensures i;
+      inputs = c .before .before .before .before .fresh-monitors .ensures .0 i;
+      buckets = c .before .before .before .before .fresh-monitors .ensures .1 i;
       settings = settingsFrom (c .fresh-registers .ensures i);
       loop = c .before .fresh-loop .ensures i;
       choice = c .before .before .settled .ensures i;

@@ -1,4 +1,4 @@
--- A step on copies of the arrays, with the keys of the registers.
+-- A step on copies of the arrays, with the numbers of the sets and the keys of the registers.
 use Rattle.unit.proofs.Given.{same-start}
 use Rattle.unit.proofs.handle.Statement.{statement}
 use Rattle.unit.proofs.handle.Tie as tie
@@ -6,11 +6,13 @@ use Rattle.unit.proofs.handle.Tie as tie
 returns : tie.Need-returns
 returns c =
     let stepped = c .before .before .before .before in
-    let parts = stepped .before .before .before .before .before .before .before .before .before .before .before .before in
-    let u = parts .before .before .before .before .before .before .before .before .before .before .before .before .before .before .before .args .u in
+    let parts = stepped .before .before .before .before .before .before .before .before .before .before .before .before .before .before .before .before in
+    let keyed = parts .before in
+    let numbered = keyed .before .before .before .before .before .before .before .before .before .before .before in
+    let u = numbered .before .before .before .before .before .before .before .before .before .args .u in
     same-start
     (λ i. record { core = parts .core-of .ensures i; rows = u .monitors; regs = u .regs; sums = u .history .sums; building = u .history .building; backup = u .history .backup })
-    (stepped .step .ensures .0 (parts .before .keys-of .ensures))
+    (stepped .step .ensures .0 (u .monitors .buckets) (numbered .numbers-of .ensures) (keyed .keys-of .ensures))
 
 pub handle-spec : {M : Type 1} → statement M
-handle-spec = tie.close (tie.spec (λ c κs. tt) (λ c κs. tt) (λ c κs. tt) returns)
+handle-spec = tie.close (tie.spec (λ c κs. tt) (λ c κs. tt) (λ c κs. tt) (λ c κs. tt) returns)

@@ -6,6 +6,7 @@ use Rattle.rules.specs.Refusals.{refusal}
 use Rattle.rules.specs.Registers.{settingsFrom}
 use Rattle.rules.specs.Run.{effect, afterHit}
 use Rattle.rules.specs.Selection.{unselectedLoop}
+use Rattle.buckets.specs.Bridge.{bucketsOf}
 use Rattle.unit.proofs.Given.{accepted, turned-down}
 use Rattle.unit.proofs.on_hit.Statement.{statement}
 use Rattle.unit.proofs.on_hit.Tie as tie
@@ -20,6 +21,7 @@ returns c m regs sums building backup h =
     accepted _ _ hit (rw (← tested .before .one-to-eight .ensures, tested .if1 .taken) refl) refl
     (λ i. record {
       inputs = hitting .unsoak .ensures m i;
+      buckets = bucketsOf (m .buckets);
       settings = settingsFrom regs;
       loop = (loop .loop-after-hit .ensures ∙ ap unselectedLoop (ready .is-ready .ensures sums building backup h)) i;
       choice = c .before .settled .ensures i;

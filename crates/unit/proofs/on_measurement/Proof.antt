@@ -10,6 +10,7 @@ use Rattle.rules.specs.Run.{effect, afterMeasurement}
 use Rattle.rules.specs.Selection.{altered}
 use Rattle.rules.specs.Sheet.{signedByte}
 use Rattle.history.specs.Bridge.{historyOf}
+use Rattle.buckets.specs.Bridge.{bucketsOf}
 use Rattle.inputs.specs.Bridge.{inputsOf, withFrequency}
 use Rattle.pll.specs.Bridge.{loopOf}
 use Rattle.selection.specs.Bridge.{choiceOf}
@@ -29,6 +30,7 @@ returns c k m sums building backup =
     accepted _ _ (measurement (a .i) (signedByte (a .offset))) (rw (← tested .before .one-to-eight .ensures, tested .if1 .taken) refl) refl
     (λ i. record {
       inputs = inputs i;
+      buckets = bucketsOf (m .buckets);
       settings = settingsFrom (now (a .regs));
       loop = loopOf (k .pll);
       choice = choiceOf (k .choice);

@@ -16,7 +16,7 @@ use Rattle.unit.proofs.on_tick.Tie as tie
 
 returns : tie.Need-returns
 unfolding refusal effect
-returns c backup h e =
+returns c buckets backup lanes h e =
     let t = c .before .before .before .before .before .before .before in
     let start = t .before .before .before in
     let a = start .args in
@@ -31,6 +31,7 @@ returns c backup h e =
             frequency = now (a .frequency);
             remainder = now (a .remainder);
             soak = now (a .soak);
+            buckets = buckets;
           };
       regs = now (a .regs);
       sums = now (a .sums);
@@ -39,11 +40,11 @@ returns c backup h e =
     } in
     accepted s _ (tick (a .mask) (a .lock) (a .x))
     (rw (← ap (λ (x : ℤ). leb (natAbs x) sampleLimit) told, ← t .before .before .in-range .ensures, t .before .if1 .taken) refl) refl
-    (c .tick .ensures backup h e ∙ ap (λ (x : ℤ). ticked (a .mask) (a .lock) x (meaning s)) told)
+    (c .tick .ensures buckets backup lanes h e ∙ ap (λ (x : ℤ). ticked (a .mask) (a .lock) x (meaning s)) told)
 
 returns-2 : tie.Need-returns-2
 unfolding refusal
-returns-2 c backup h e =
+returns-2 c buckets backup lanes h e =
     let a = c .before .before .args in
     turned-down _ (tick (a .mask) (a .lock) (a .x))
     (rw (← ap (λ (x : ℤ). leb (natAbs x) sampleLimit) (toZ-ofZ (c .before .before .fits .x)), ← c .before .in-range .ensures, c .if1 .left) refl) (λ z. omega arith)

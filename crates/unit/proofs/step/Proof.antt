@@ -4,14 +4,15 @@ use denote.Ref.{now}
 use mir.Syntax.{w32}
 use mir.Val.{toZ, ofZ}
 use borrow.Author.Needs.{needs}
+use Rattle.buckets.specs.declared.Buckets.{Buckets}
 use Rattle.inputs.specs.declared.Monitors.{Monitors}
 use Rattle.unit.proofs.Given.{same-sample}
 use Rattle.unit.proofs.step.Statement.{statement}
 use Rattle.unit.proofs.step.Tie as tie
 
 -- the rows when the call begins
-abbrev rows : tie.Start → Monitors
-rows s =
+abbrev rows : tie.Start → Buckets → Monitors
+rows s buckets =
     record {
       level = now (s .args .level);
       decay = now (s .args .decay);
@@ -19,6 +20,7 @@ rows s =
       frequency = now (s .args .frequency);
       remainder = now (s .args .remainder);
       soak = now (s .args .soak);
+      buckets = buckets;
     }
 
 -- a tick's sample, as the machine has it
@@ -31,9 +33,9 @@ returns c =
     let told = known .before in
     let sized = told .before .before .before .before in
     let a = sized .before .before .args in (
-      (λ keyed.
+      (λ buckets lanes keyed.
           rw (told .e .given .1)
-          (same-sample (sample known) (c .on-tick .ensures (now (a .backup)) (sized .places .ensures) keyed))),
+          (same-sample (sample known) (c .on-tick .ensures buckets (now (a .backup)) lanes (sized .places .ensures) keyed))),
       (λ keyed. keyed),
     )
 
@@ -42,7 +44,7 @@ returns-2 c =
     let told = c .before .before .before .before in
     let start = told .before .before .before .before .before .before in
     let a = start .args in
-    ((λ keyed. rw (told .e2 .given .1) (c .on-measurement .ensures (a .k) (rows start) (now (a .sums)) (now (a .building)) (now (a .backup)))), (λ keyed. keyed))
+    ((λ buckets lanes keyed. rw (told .e2 .given .1) (c .on-measurement .ensures (a .k) (rows start buckets) (now (a .sums)) (now (a .building)) (now (a .backup)))), (λ keyed. keyed))
 
 returns-3 : tie.Need-returns-3
 returns-3 c =
@@ -50,7 +52,7 @@ returns-3 c =
     let sized = told .before .before .before .before in
     let start = sized .before .before in
     let a = start .args in
-    ((λ keyed. rw (told .enum-told .given .1) (c .on-hit .ensures (rows start) (now (a .regs)) (now (a .sums)) (now (a .building)) (now (a .backup)) (sized .places .ensures))), (λ keyed. keyed))
+    ((λ buckets lanes keyed. rw (told .enum-told .given .1) (c .on-hit .ensures (rows start buckets) (now (a .regs)) (now (a .sums)) (now (a .building)) (now (a .backup)) (sized .places .ensures))), (λ keyed. keyed))
 
 returns-4 : tie.Need-returns-4
 returns-4 c =
@@ -59,7 +61,7 @@ returns-4 c =
     let second = told .before .before in
     let sized = second .before .before in
     let start = sized .before .before in
-    ((λ keyed. rw (told .e3 .given .1) (w .on-write .ensures .0 (rows start) (sized .places .ensures) (second .places2 .ensures))), w .on-write .ensures .1)
+    ((λ buckets lanes keyed. rw (told .e3 .given .1) (w .on-write .ensures .0 (rows start buckets) (sized .places .ensures) (second .places2 .ensures))), w .on-write .ensures .1)
 
 pub step-spec : {M : Type 1} → statement M
 step-spec =

@@ -6,6 +6,7 @@ use Rattle.rules.specs.Words.{if_then_else_}
 use Rattle.rules.specs.Registers.{written, settingsFrom}
 use Rattle.rules.specs.Run.{afterWrite}
 use Rattle.history.specs.Bridge.{historyOf}
+use Rattle.buckets.specs.Bridge.{bucketsOf}
 use Rattle.inputs.specs.Bridge.{inputsOf}
 use Rattle.pll.specs.Bridge.{loopOf}
 use Rattle.selection.specs.Bridge.{choiceOf}
@@ -19,6 +20,7 @@ returns c k m known =
     rw (eq-eqb (a .a) 0x26 (c .before .before .before .before .if1 .taken))
     (λ i. record {
       inputs = inputsOf m;
+      buckets = bucketsOf (m .buckets);
       settings = settingsFrom (now (a .regs));
       loop = loopOf (k .pll);
       choice = choiceOf (k .choice);
@@ -35,6 +37,7 @@ returns-2 c k m known =
     rw (ne-eqb (a .a) 0x26 (c .before .before .if1 .left))
     (λ i. record {
       inputs = inputsOf m;
+      buckets = bucketsOf (m .buckets);
       settings = settings i;
       loop = loopOf (k .pll);
       choice = choiceOf (k .choice);
