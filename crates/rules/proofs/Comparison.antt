@@ -190,7 +190,7 @@ module _ (o n : State) (t : Twin o n) (w : SoundHistory (n .history)) where
       (twin-called o n t w (withSet m (bucketFrom size setLevel clearLevel d)) (λ bs. putAtSize (having bs m) size))
   twin-next (assignBucket i m) =
       both (accepted n (assignBucket i m)) (accepted n (assignBucket i m)) refl
-      (twin-called o n t w (withAssigned i m) (λ bs. putAtSize (λ j. eqb j i) (setAt bs m .size)))
+      (twin-called o n t w (withAssigned i m) (λ bs. putAtSize (eqb i) (setAt bs m .size)))
 
 twin-run : (es : List Event) (o n : State) → Twin o n → Lawful n → Twin (oldRun o es) (run n es)
 unfolding run oldRun

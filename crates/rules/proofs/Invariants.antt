@@ -11,22 +11,22 @@ use lib.ListN.{getD-replicate}
 use borrow.Author.Tests.{eqb-true, eqb-false, leb-true, ltb-false, le-ltb, eq-eqb, ne-eqb, not-false}
 use Rattle.rules.specs.Words.{isInput, isTracked}
 use Rattle.rules.specs.Events.{Event, tick, measurement, hit, write, setBucket, assignBucket, sampleLimit}
-use Rattle.rules.specs.Monitors.{Bucket, unsoaked, freshInput}
+use Rattle.rules.specs.Monitors.{unsoaked, freshInput}
 use Rattle.rules.specs.Pll.{Mode, freeRun, holdover, modeNumber, is}
 use Rattle.rules.specs.Settings.{Settings, reject, qualification}
 use Rattle.rules.specs.Selection.{Inputs, settled, unselectedMode, unselectedLoop}
-use Rattle.rules.specs.Buckets.{inBounds, isSetNumber, bucketFrom, Buckets, startBucket, bucketOf}
+use Rattle.rules.specs.Buckets.{bucketFrom, Buckets, startBucket, bucketOf}
 use Rattle.rules.specs.History.{History, freshHistory, held}
 use Rattle.rules.specs.State.{State, selected, Ready}
 use Rattle.rules.specs.Tick.{holdingLimit, holdingAfter, steps1to4, step5, ticked}
 use Rattle.rules.specs.Registers.{place, inMap, registers, register, readOnly, largest, stored, written, settingsFrom, freshFrom, freshTable, fresh}
-use Rattle.rules.specs.Refusals.{limitsApart, limitsRefused, commandRefused, writeRefusal, setRefusal, assignRefusal, refusal, accepted}
+use Rattle.rules.specs.Refusals.{limitsApart, limitsRefused, commandRefused, writeRefusal, refusal, accepted}
 use Rattle.rules.specs.Run.{afterMeasurement, afterHit, afterWrite, afterCall, afterSet, afterAssign, effect, next, run}
-use Rattle.rules.specs.Laws.{SoundBucket, SoundBuckets, SoundInputs, SoundSettings, SoundHistory, Lawful, Invariants, Saturation}
-use Rattle.rules.proofs.Tests.{if-case, by-test, clash, and-false, and-left, and-right, or-false, low, high, unrefused, zero-if}
+use Rattle.rules.specs.Laws.{SoundBuckets, SoundInputs, SoundSettings, SoundHistory, Lawful, Invariants, Saturation}
+use Rattle.rules.proofs.Tests.{if-case, by-test, clash, and-false, or-false, low, high, unrefused, zero-if}
 use Rattle.rules.proofs.Tables.{fresh-largest}
 use Rattle.rules.proofs.OneInput.{works, sound-measured, sound-unsoaked, sound-fresh}
-use Rattle.rules.proofs.SoundBuckets.{sound-bucket, sound-set, sound-assigned, sound-start, start-bucket, sound-fresh-buckets, bucket-works}
+use Rattle.rules.proofs.SoundBuckets.{SetAllowed, set-allowed, assign-allowed, sound-set, sound-assigned, sound-start, start-bucket, sound-fresh-buckets, bucket-works}
 use Rattle.rules.proofs.SoundInputs.{sound-altered, sound-inputs, sound-after-set, sound-after-assign}
 use Rattle.rules.proofs.SoundLoop.{sound-loop, sound-unselected}
 use Rattle.rules.proofs.SoundHistory.{no-blocks, none-building, sound-emptied, sum-kept, sound-recorded, sound-commanded, last-recorded, last-commanded}
@@ -186,29 +186,21 @@ lawful-call bs inputs s sets sound w =
       holding-none = w .holding-none;
     }
 
-lawful-set : (n size setLevel clearLevel d : ℕ) (s : State) → (isSetNumber n && inBounds size setLevel clearLevel d) ≡ true → Lawful s
+lawful-set : (n size setLevel clearLevel d : ℕ) (s : State) → SetAllowed n size setLevel clearLevel d → Lawful s
     → Lawful (afterSet n (bucketFrom size setLevel clearLevel d) s)
 unfolding afterSet
 lawful-set n size setLevel clearLevel d s ok w =
-    let known = leb-true n 3 (and-left (isSetNumber n) (inBounds size setLevel clearLevel d) ok) in
-    let sound = sound-bucket size setLevel clearLevel d (and-right (isSetNumber n) (inBounds size setLevel clearLevel d) ok) in
-    lawful-call _ _ s (sound-set n _ (s .buckets) known (w .buckets) sound) (sound-after-set (s .buckets) (s .inputs) (w .inputs) n _ known (w .buckets) sound) w
+    lawful-call _ _ s (sound-set n _ (s .buckets) (ok .known) (w .buckets) (ok .sound))
+    (sound-after-set (s .buckets) (s .inputs) (w .inputs) n _ (ok .known) (w .buckets) (ok .sound)) w
 
-lawful-assign : (i n : ℕ) (s : State) → isInput i ≡ true → isSetNumber n ≡ true → Lawful s → Lawful (afterAssign i n s)
+lawful-assign : (i n : ℕ) (s : State) → (isInput i ≡ true) × (n ≤ 3) → Lawful s → Lawful (afterAssign i n s)
 unfolding afterAssign
-lawful-assign i n s input ok w =
-    let known = leb-true n 3 ok in
-    lawful-call _ _ s (sound-assigned i n (s .buckets) input (w .buckets) known) (sound-after-assign (s .buckets) (s .inputs) (w .inputs) i n input known (w .buckets)) w
-
--- what an accepted assignment has passed
-assign-allowed : (i n : ℕ) → assignRefusal i n ≡ 0 → (isInput i ≡ true) × (isSetNumber n ≡ true)
-unfolding assignRefusal
-assign-allowed i n e =
-    let first = unrefused (not (isInput i)) 5 _ e in
-    (not-false (isInput i) (first .0), zero-if (isSetNumber n) 13 (eq-eqb _ 0 (first .1)))
+lawful-assign i n s ok w =
+    lawful-call _ _ s (sound-assigned i n (s .buckets) (ok .0) (w .buckets) (ok .1))
+    (sound-after-assign (s .buckets) (s .inputs) (w .inputs) i n (ok .0) (ok .1) (w .buckets)) w
 
 pub lawful-next : (s : State) (e : Event) → Lawful s → Lawful (next s e)
-unfolding next effect refusal setRefusal
+unfolding next effect refusal
 lawful-next s (tick mask lock x) w =
     if-case Lawful (accepted s (tick mask lock x))
     (λ t. lawful-tick mask lock x s (leb-true (natAbs x) sampleLimit (zero-if (leb (natAbs x) sampleLimit) 6 t)) w) (λ t. w)
@@ -217,10 +209,9 @@ lawful-next s hit w = if-case Lawful (accepted s hit) (λ t. lawful-hit s (zero-
 lawful-next s (write a v) w = if-case Lawful (accepted s (write a v)) (λ t. lawful-write a v s (write-allowed s a v t) w) (λ t. w)
 lawful-next s (setBucket n size setLevel clearLevel d) w =
     if-case Lawful (accepted s (setBucket n size setLevel clearLevel d))
-    (λ t. lawful-set n size setLevel clearLevel d s (zero-if (isSetNumber n && inBounds size setLevel clearLevel d) 13 t) w) (λ t. w)
+    (λ t. lawful-set n size setLevel clearLevel d s (set-allowed n size setLevel clearLevel d (eqb-true _ 0 t)) w) (λ t. w)
 lawful-next s (assignBucket i n) w =
-    if-case Lawful (accepted s (assignBucket i n))
-    (λ t. let ok = assign-allowed i n (eqb-true (assignRefusal i n) 0 t) in lawful-assign i n s (ok .0) (ok .1) w) (λ t. w)
+    if-case Lawful (accepted s (assignBucket i n)) (λ t. lawful-assign i n s (assign-allowed i n (eqb-true _ 0 t)) w) (λ t. w)
 
 pub lawful-run : (es : List Event) (s : State) → Lawful s → Lawful (run s es)
 unfolding run

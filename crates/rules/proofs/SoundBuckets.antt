@@ -1,34 +1,55 @@
 -- The four sets stay within their bounds and each input keeps one of them, whatever is set or assigned (#104).
 use Prim.Native.Nat.{ℕ, zero, suc, _-_, _≤_}
-use mathlib.Core.Path.{_≡_, refl, sym, ap, _∙_}
-use mathlib.Core.Bool.{Bool, true, false, _&&_}
-use mathlib.Core.List.{List}
+use mathlib.Core.Path.{_≡_, refl, _∙_}
+use mathlib.Core.Bool.{true, not, _&&_}
 use native.Mathlib.Omega.{arith}
 use lib.Dec.{leb, ltb, eqb}
-use lib.ListN.{length, getD, length-set, length-replicate, replicate}
+use lib.ListN.{getD, length-set, replicate}
 use lib.Seq.{getD-set-same, getD-set-other}
-use borrow.Author.Tests.{eqb-true, eqb-false, leb-true, ltb-true}
+use borrow.Author.Tests.{eqb-true, eqb-false, leb-true, ltb-true, eq-eqb, not-false}
 use Rattle.rules.specs.Words.{isInput}
 use Rattle.rules.specs.Monitors.{Bucket}
 use Rattle.rules.specs.Buckets.{bucketFrom, inBounds, isSetNumber, Buckets, startBucket, freshBuckets, setAt, setOf, bucketOf, withSet, withAssigned}
 use Rattle.rules.specs.Refusals.{setRefusal, assignRefusal}
 use Rattle.rules.specs.Laws.{SoundBucket, SoundBuckets}
-use Rattle.rules.proofs.Tests.{by-test, and-left, and-right, low, high}
+use Rattle.rules.proofs.Tests.{by-test, and-left, and-right, low, high, unrefused, zero-if}
 use Rattle.rules.proofs.OneInput.{Working, works}
 
--- numbers within the bounds are a set within them
-pub sound-bucket : (size setLevel clearLevel d : ℕ) → inBounds size setLevel clearLevel d ≡ true → SoundBucket (bucketFrom size setLevel clearLevel d)
+-- ---- what an accepted call has passed
+
+-- the numbers of a set are within the bounds
+sound-bucket : (size setLevel clearLevel d : ℕ) → inBounds size setLevel clearLevel d ≡ true → (d ≤ 3) × SoundBucket (bucketFrom size setLevel clearLevel d)
 unfolding inBounds bucketFrom
 sound-bucket s u l d e =
     let levels = ltb l u && leb u s in
     let bounded = and-left (levels && leb s 255) (leb d 3) e in
     let ordered = and-left levels (leb s 255) bounded in
+    let few = leb-true d 3 (and-right (levels && leb s 255) (leb d 3) e) in
+    (few,
     record {
       clears = ltb-true l u (and-left (ltb l u) (leb u s) ordered);
       sets = leb-true u s (and-right (ltb l u) (leb u s) ordered);
       small = leb-true s 255 (and-right levels (leb s 255) bounded);
-      decays = (d, (leb-true d 3 (and-right (levels && leb s 255) (leb d 3) e), refl));
-    }
+      decays = (d, (few, refl));
+    })
+
+pub record SetAllowed (n size setLevel clearLevel d : ℕ) : Type 0 where
+  pub known : n ≤ 3
+  pub few : d ≤ 3
+  pub sound : SoundBucket (bucketFrom size setLevel clearLevel d)
+
+pub set-allowed : (n size setLevel clearLevel d : ℕ) → setRefusal n size setLevel clearLevel d ≡ 0 → SetAllowed n size setLevel clearLevel d
+unfolding setRefusal
+set-allowed n size setLevel clearLevel d e =
+    let ok = zero-if (isSetNumber n && inBounds size setLevel clearLevel d) 13 (eq-eqb _ 0 e) in
+    let within = sound-bucket size setLevel clearLevel d (and-right (isSetNumber n) (inBounds size setLevel clearLevel d) ok) in
+    record { known = leb-true n 3 (and-left (isSetNumber n) (inBounds size setLevel clearLevel d) ok); few = within .0; sound = within .1 }
+
+pub assign-allowed : (i n : ℕ) → assignRefusal i n ≡ 0 → (isInput i ≡ true) × (n ≤ 3)
+unfolding assignRefusal
+assign-allowed i n e =
+    let first = unrefused (not (isInput i)) 5 _ e in
+    (not-false (isInput i) (first .0), leb-true n 3 (zero-if (isSetNumber n) 13 (eq-eqb _ 0 (first .1))))
 
 -- ---- a set is set
 
@@ -76,7 +97,7 @@ module _ (i n : ℕ) (bs : Buckets) (input : isInput i ≡ true) (s : SoundBucke
 
 pub sound-start : SoundBucket startBucket
 unfolding startBucket inBounds
-sound-start = sound-bucket 8 6 4 1 refl
+sound-start = sound-bucket 8 6 4 1 refl .1
 
 -- a list of one value has it everywhere
 everywhere : {A : Type 0} (n k : ℕ) (x : A) → getD (replicate n x) k x ≡ x

@@ -1,6 +1,6 @@
 -- The eight inputs stay sound, whatever comes.
 use Prim.Native.Nat.{ℕ, _≤_}
-use mathlib.Core.Path.{_≡_, refl, _∙_}
+use mathlib.Core.Path.{_≡_, refl, sym, _∙_}
 use mathlib.Core.Bool.{Bool, true, false, _&&_}
 use native.Mathlib.Omega.{arith}
 use lib.Dec.{eqb}
@@ -80,9 +80,9 @@ module _ (bs : Buckets) (l : Inputs) (s : SoundInputs bs l) where
       (λ i r e. set-other n b bs h w (setOf bs i) (eqb-false (setOf bs i) n e))
 
   pub sound-after-assign : (i n : ℕ) → isInput i ≡ true → n ≤ 3 → SoundBuckets bs
-      → SoundInputs (withAssigned i n bs) (putAtSize (λ j. eqb j i) (setAt bs n .size) l)
+      → SoundInputs (withAssigned i n bs) (putAtSize (eqb i) (setAt bs n .size) l)
   unfolding withAssigned
   sound-after-assign i n input h w =
-      put-sound (withAssigned i n bs) (λ j. eqb j i) (setAt bs n .size)
-      (λ j r e. let is : setOf (withAssigned i n bs) j ≡ n = rw (eqb-true j i e) (assigned-same i n bs input w) in (rw is (works (w .each n h)), rw is refl))
-      (λ j r e. rw (assigned-other i n bs input w j r (eqb-false j i e)) refl)
+      put-sound (withAssigned i n bs) (eqb i) (setAt bs n .size)
+      (λ j r e. let is : setOf (withAssigned i n bs) j ≡ n = rw (← eqb-true i j e) (assigned-same i n bs input w) in (rw is (works (w .each n h)), rw is refl))
+      (λ j r e. rw (assigned-other i n bs input w j r (λ z. eqb-false i j e (sym z))) refl)

@@ -71,7 +71,7 @@ unfoldable pub afterSet : ℕ → Bucket → State → State
 afterSet n b s = afterCall (withSet n b (s .buckets)) (putAtSize (having (s .buckets) n) (b .size) (s .inputs)) s
 
 unfoldable pub afterAssign : ℕ → ℕ → State → State
-afterAssign i n s = afterCall (withAssigned i n (s .buckets)) (putAtSize (λ j. eqb j i) (setAt (s .buckets) n .size) (s .inputs)) s
+afterAssign i n s = afterCall (withAssigned i n (s .buckets)) (putAtSize (eqb i) (setAt (s .buckets) n .size) (s .inputs)) s
 
 -- what an accepted event leaves
 unfoldable pub effect : State → Event → State

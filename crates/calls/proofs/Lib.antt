@@ -1,0 +1,2 @@
+-- The proofs of the calls.
+pub mod Called
