@@ -12,6 +12,8 @@ use Rattle.rules.specs.Registers.{settingsFrom}
 use Rattle.rules.specs.Sheet as rules
 use Rattle.rules.specs.Sheet.{bad, decode, eventsOf, records}
 use Rattle.rules.specs.State.{State}
+use Rattle.buckets.specs.Bridge.{numbers, numbersOf}
+use Rattle.buckets.specs.declared.Buckets.{Buckets}
 use Rattle.inputs.specs.declared.Monitors.{Monitors}
 use Rattle.candidates.specs.Keys.{keysFrom}
 use Rattle.tick.specs.Bridge.{stateOf}
@@ -24,58 +26,79 @@ use Rattle.run.proofs.run_events.Statement.{statement}
 use Rattle.run.proofs.run_events.Tie as tie
 
 -- the state that lies in these arrays
-abbrev lying : Core → List ℕ → List ℕ → List ℕ → List ℕ → List ℕ → List ℕ → List ℕ → List ℤ → List ℤ → List ℤ → State
-lying k level decay active frequency remainder soak regs sums building backup =
-    stateOf k (record { level = level; decay = decay; active = active; frequency = frequency; remainder = remainder; soak = soak }) regs sums building backup
+abbrev lying : Buckets → Core → List ℕ → List ℕ → List ℕ → List ℕ → List ℕ → List ℕ → List ℕ → List ℤ → List ℤ → List ℤ → State
+lying b k level decay active frequency remainder soak regs sums building backup =
+    stateOf k (record { level = level; decay = decay; active = active; frequency = frequency; remainder = remainder; soak = soak; buckets = b }) regs sums building backup
 
 abbrev Inv-loop : tie.InvT-loop
-Inv-loop part n regs₀ keys₀ sums₀ building₀ backup₀ out₀ level₀ decay₀ active₀ frequency₀ remainder₀ soak₀ k₀ i₀ regs keys sums building backup out level decay active frequency remainder soak k i =
+Inv-loop part n regs₀ keys₀ sums₀ building₀ backup₀ out₀ level₀ decay₀ active₀ frequency₀ remainder₀ soak₀ sizes highs lows spans k₀ i₀ regs keys sums building backup out level decay active frequency remainder soak k i =
     (i ≤ n)
     × (keys ≡ keysFrom (settingsFrom regs))
-    × Going (records (lying k₀ level₀ decay₀ active₀ frequency₀ remainder₀ soak₀ regs₀ sums₀ building₀ backup₀) (eventsOf n part)) out₀ (4 * i)
-    (lying k level decay active frequency remainder soak regs sums building backup) (eventsOf (n - i) (drop (8 * i) part)) out
+    × ((b : Buckets) → numbers sizes highs lows spans ≡ numbersOf b
+    → Going (records (lying b k₀ level₀ decay₀ active₀ frequency₀ remainder₀ soak₀ regs₀ sums₀ building₀ backup₀) (eventsOf n part)) out₀ (4 * i)
+    (lying b k level decay active frequency remainder soak regs sums building backup) (eventsOf (n - i) (drop (8 * i) part)) out)
 
 abbrev μ-loop : tie.MeasureT-loop
-μ-loop part n regs₀ keys₀ sums₀ building₀ backup₀ out₀ level₀ decay₀ active₀ frequency₀ remainder₀ soak₀ k₀ i₀ regs keys sums building backup out level decay active frequency remainder soak k i =
+μ-loop part n regs₀ keys₀ sums₀ building₀ backup₀ out₀ level₀ decay₀ active₀ frequency₀ remainder₀ soak₀ sizes highs lows spans k₀ i₀ regs keys sums building backup out level decay active frequency remainder soak k i =
     n - i
+
+-- where the loop began: with the numbers of the unit's sets
+abbrev numbered : tie.At-loop Inv-loop μ-loop → tie.After-numbers-of Inv-loop μ-loop
+numbered c = c .before .before .before .before .before
+
+abbrev begun : tie.At-loop Inv-loop μ-loop → tie.Start Inv-loop μ-loop
+begun c = numbered c .before .before .before .before .before .before .before .before .before .before
+
+-- the records so far
+abbrev so-far : (c : tie.At-loop Inv-loop μ-loop)
+    → let l = c .loop in
+    let a = begun c .args in
+    let b = a .m .buckets in
+    Going
+    (records (stateOf (a .start) (a .m) (now (a .regs)) (now (a .sums)) (now (a .building)) (now (a .backup))) (eventsOf (a .n) (now (a .part))))
+    (now (a .out)) (4 * l .i) (lying b (l .k) (l .level) (l .decay) (l .active) (l .frequency) (l .remainder) (l .soak) (l .regs) (l .sums) (l .building) (l .backup))
+    (eventsOf (a .n - l .i) (drop (8 * l .i) (now (a .part)))) (l .out)
+so-far c = c .loop .inv .2 (begun c .args .m .buckets) (numbered c .numbers-of .ensures)
 
 -- what was read is what stands at the event's place
 reads-at : (c : tie.After-read-event Inv-loop μ-loop) (d : rules.Decoded) → decodedOf (c .read-event .result) ≡ d
     → let at-loop = c .before .before .before in
-    decode (drop (8 * at-loop .loop .i) (now (at-loop .before .before .before .before .before .before .before .before .before .args .part))) ≡ d
+    decode (drop (8 * at-loop .loop .i) (now (begun at-loop .args .part))) ≡ d
 reads-at c d h =
     let at-loop = c .before .before .before in
     let i = at-loop .loop .i in
-    let part = now (at-loop .before .before .before .before .before .before .before .before .before .args .part) in
+    let part = now (begun at-loop .args .part) in
     sym (event-part (8 * i) part) ∙ sym (c .read-event .ensures .0 (event-length (8 * i) part (omega arith))) ∙ h
 
 loop-holds : tie.Need-loop-holds Inv-loop μ-loop
 loop-holds c =
-    let start = c .before .before .before .before .before .before .before .before in
+    let start = c .before .before .before .before .before .before .before .before .before .before .before .before .before .before in
     let a = start .args in (
       search needs,
       start .pre .2,
-      rw (sub-zero (a .n)) (going-start (stateOf (a .start) (a .m) (now (a .regs)) (now (a .sums)) (now (a .building)) (now (a .backup))) (eventsOf (a .n) (now (a .part))) (now (a .out))),
+      (λ b lanes. rw (sub-zero (a .n)) (going-start (lying b (a .start) (a .m .level) (a .m .decay) (a .m .active) (a .m .frequency) (a .m .remainder) (a .m .soak) (now (a .regs)) (now (a .sums)) (now (a .building)) (now (a .backup))) (eventsOf (a .n) (now (a .part))) (now (a .out)))),
     )
 
 -- within a turn there is room for the event's record
 room : (c : tie.In-loop Inv-loop μ-loop) → (4 * c .before .loop .i + 4 ≤ length (c .before .loop .out)) × (length (c .before .loop .out) < 2 ^ 64)
-room c = (omega arith, omega arith)
+room c =
+    let same = so-far (c .before) .same in
+    (omega (arith, same, c .loop-test .taken, begun (c .before) .pre .1), omega (arith, same, begun (c .before) .good .1 .1 .1 .1 .1 .1 .1 .1 .1 .0))
 
 same-length : tie.Need-same-length Inv-loop μ-loop
-same-length c = c .before .before .before .before .before .loop .inv .2 .same
+same-length c = so-far (c .before .before .before .before .before) .same
 
 returns : tie.Need-returns Inv-loop μ-loop
 returns c =
     let read = c .before .before in
     let at-loop = read .before .before .before in
-    going-done _ _ (4 * at-loop .loop .i) _ _ _ (omega arith)
+    going-done _ _ (4 * at-loop .loop .i) _ _ _ (omega (arith, read .before .before .loop-test .taken, begun at-loop .pre .1))
     (events-stop _ _ _ (read .before .before .loop-test .taken) (reads-at read bad (ap decodedOf (c .enum-told .given .1))))
-    (at-loop .loop .inv .2)
+    (so-far at-loop)
 
 -- the turn in which a step was made
 abbrev turn : tie.After-step Inv-loop μ-loop → tie.In-loop Inv-loop μ-loop
-turn c = c .before .before .before .before .before .before .before .before .before .before .before .before .before .before .before .before .before
+turn c = c .before .before .before .before .before .before .before .before .before .before .before .before .before .before .before .before .before .before .before .before .before
 
 put-record-requires : tie.Need-put-record-requires Inv-loop μ-loop
 put-record-requires c κs =
@@ -85,7 +108,7 @@ put-record-requires c κs =
 add-i : tie.Need-add-i Inv-loop μ-loop
 add-i c =
     let t = turn (c .before .before .before .before .before .before .before .before .before .before) in
-    omega (arith, t .loop-test .taken, t .before .before .before .before .before .before .before .before .before .before .fits .n)
+    omega (arith, t .loop-test .taken, begun (t .before) .fits .n)
 
 loop-again : tie.Need-loop-again Inv-loop μ-loop
 loop-again c =
@@ -93,7 +116,7 @@ loop-again c =
     let second = put .before .before .before .before in
     let first = second .before .before in
     let stepped = first .before .before in
-    let told = stepped .before .before .before .before .before .before .before .before .before .before .before .before .before in
+    let told = stepped .before .before .before .before .before .before .before .before .before .before .before .before .before .before .before .before .before in
     let read = told .before .before in
     let in-loop = read .before .before in
     let at-loop = in-loop .before in
@@ -101,29 +124,30 @@ loop-again c =
     let i = l .i in
     let after = stepped .step .ensures in
     let left = stepped .step .last in
-    let rows : Monitors = record {
+    let rows : Buckets → Monitors = λ b. record {
       level = left .1 .1 .0;
       decay = left .1 .1 .1 .0;
       active = left .1 .1 .1 .1 .0;
       frequency = left .1 .1 .1 .1 .1 .0;
       remainder = left .1 .1 .1 .1 .1 .1 .0;
       soak = left .1 .1 .1 .1 .1 .1 .1 .0;
+      buckets = b;
     } in (
       omega (arith, in-loop .loop-test .taken),
       after .1 (l .inv .1),
-      going-put _ _ (4 * i) (4 * (i + 1)) _ _ _ _ _ _ _ (omega arith) (omega (arith, in-loop .loop-test .taken, at-loop .before .before .before .before .before .before .before .before .before .pre .1))
-          (events-more _ _ _ (in-loop .loop-test .taken) _ (reads-at read _ (ap decodedOf (told .e .given .1)))) (after .0 (l .inv .1) .rules)
-          (put .put-record .ensures rows _ _ _ _ (first .places .ensures) (second .places2 .ensures)) (l .inv .2),
+      (λ b lanes. going-put _ _ (4 * i) (4 * (i + 1)) _ _ _ _ _ _ _ (omega arith) (omega (arith, in-loop .loop-test .taken, begun at-loop .pre .1))
+          (events-more _ _ _ (in-loop .loop-test .taken) _ (reads-at read _ (ap decodedOf (told .e .given .1)))) (after .0 b lanes (l .inv .1) .rules)
+          (put .put-record .ensures (rows b) _ _ _ _ (first .places .ensures) (second .places2 .ensures)) (l .inv .2 b lanes)),
     )
 
 returns-2 : tie.Need-returns-2 Inv-loop μ-loop
 unfolding eventsOf
 returns-2 c =
     let at-loop = c .before in
-    let a = at-loop .before .before .before .before .before .before .before .before .before .args in
+    let a = begun at-loop .args in
     let i = at-loop .loop .i in
     let e : a .n - i ≡ 0 = omega arith in
-    going-done _ _ (4 * i) _ _ _ (omega arith) (ap (λ (k : ℕ). eventsOf k (drop (8 * i) (now (a .part)))) e) (at-loop .loop .inv .2)
+    going-done _ _ (4 * i) _ _ _ (omega (arith, at-loop .loop .inv .0, begun at-loop .pre .1)) (ap (λ (k : ℕ). eventsOf k (drop (8 * i) (now (a .part)))) e) (so-far at-loop)
 
 pub run-events-spec : {M : Type 1} → statement M
 run-events-spec =
@@ -131,6 +155,7 @@ run-events-spec =
     (tie.spec
     Inv-loop
     μ-loop
+    (λ c κs. tt)
     loop-holds
     (omega arith)
     (omega arith)
@@ -153,5 +178,5 @@ run-events-spec =
     add-i
     (λ c. let t = turn (c .before .before .before .before .before .before .before .before .before .before) in omega (arith, t .loop-test .taken))
     loop-again
-    (λ c. c .before .loop .inv .2 .same)
+    (λ c. so-far (c .before) .same)
     returns-2)

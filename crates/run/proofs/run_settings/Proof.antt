@@ -72,7 +72,15 @@ loop-again c =
     let more = settings-more (a .n) i (now (a .part)) (in-loop .loop-test .taken) in
     let told = stepped .write .ensures in
     let row = now (a .soak) in
-    let some : Monitors = record { level = row; decay = row; active = row; frequency = row; remainder = row; soak = row } in
+    let some : Monitors = record {
+      level = row;
+      decay = row;
+      active = row;
+      frequency = row;
+      remainder = row;
+      soak = row;
+      buckets = record { size = row; high = row; low = row; span = row; assigned = row };
+    } in
     let going : (m : Monitors) → _ = λ m.
     let rows = withSoak m (now (a .soak)) in
     going-put _ _ (4 * i) (4 * (i + 1)) _ _ _ _ _ _ _ (omega arith) (omega (arith, l .inv .1)) more (told .0 rows .rules)
