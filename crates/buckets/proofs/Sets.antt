@@ -62,6 +62,6 @@ four-at f d (suc (suc (suc zero))) h = refl
 four-at f d (suc (suc (suc (suc n)))) h = absurd (omega arith)
 
 -- number by number from the rows at its set's place, and from the rules' sets
-pub set-at : (b : Buckets) (n : ℕ) → bucketAt (b .size) (b .high) (b .low) (b .span) (n % 4) ≡ getD (bucketsOf b .sets) (n % 4) startBucket
+pub set-at : (b : Buckets) (n : ℕ) → bucketAt (b .size) (b .high) (b .low) (b .last) (n % 4) ≡ getD (bucketsOf b .sets) (n % 4) startBucket
 unfolding bucketsOf
-set-at b n = sym (four-at (bucketAt (b .size) (b .high) (b .low) (b .span)) startBucket (n % 4) (mod-lt n (omega arith)))
+set-at b n = sym (four-at (bucketAt (b .size) (b .high) (b .low) (b .last)) startBucket (n % 4) (mod-lt n (omega arith)))

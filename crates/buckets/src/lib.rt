@@ -1,5 +1,6 @@
 // The four sets of bucket numbers and the set of each input (document 02, #104): fresh, as a row of eight for the ticks, and set or assigned anew.
-// A set's numbers are its size, the level that sets the activity alarm, the level that clears it, and the ticks of a decay.
+// A set's numbers are its size, the level that sets the activity alarm, the level that clears it, and the last decay count: one less than the ticks of a
+// decay, of which the lowest byte counts, so that it is below 256 whatever is stored.
 ghost use mathlib.Core.Path.{_≡_};
 ghost use Prim.Native.Nat.{_+_, _%_, _^_, _≤_};
 ghost use lib.Dec.{eqb};
@@ -21,7 +22,7 @@ pub struct Buckets {
     pub size: [u16; 4],
     pub high: [u16; 4],
     pub low: [u16; 4],
-    pub span: [u16; 4],
+    pub last: [u16; 4],
     pub assigned: [u16; 8],
 }
 
@@ -33,7 +34,7 @@ pub fn fresh_buckets() -> Buckets
         size: [8; 4],
         high: [6; 4],
         low: [4; 4],
-        span: [2; 4],
+        last: [1; 4],
         assigned: [0; 8],
     }
 }
@@ -63,12 +64,12 @@ fn lanes(row: [u16; 4], assigned: [u16; 8]) -> [u16; 8]
     ]
 }
 
-// For each input the numbers of its set: sizes, set levels, clear levels, and ticks of a decay.
+// For each input the numbers of its set: sizes, set levels, clear levels, and last decay counts.
 pub struct Numbers {
     pub sizes: [u16; 8],
     pub highs: [u16; 8],
     pub lows: [u16; 8],
-    pub spans: [u16; 8],
+    pub lasts: [u16; 8],
 }
 
 // The numbers that a tick takes: they follow from sets and assignments, and change by a call alone.
@@ -78,17 +79,17 @@ pub fn numbers_of(b: Buckets) -> Numbers
     let s = b.size;
     let h = b.high;
     let l = b.low;
-    let t = b.span;
+    let t = b.last;
     let a = b.assigned;
     let sizes = lanes(s, a);
     let highs = lanes(h, a);
     let lows = lanes(l, a);
-    let spans = lanes(t, a);
+    let lasts = lanes(t, a);
     Numbers {
         sizes: sizes,
         highs: highs,
         lows: lows,
-        spans: spans,
+        lasts: lasts,
     }
 }
 
@@ -145,20 +146,20 @@ pub fn assign_refusal(i: u8, n: u8) -> u8
 
 // ---- sets and assignments after a call
 
-// "decay of 2^d ticks", for d from 0 to 3.
-fn ticks_of(d: u8) -> u16
-    ensures { λ r. ⌜ (d ≤ 3 → r ≡ 2 ^ d) ⌝ }
+// "decay of 2^d ticks", for d from 0 to 3: the last count.
+fn last_of(d: u8) -> u16
+    ensures { λ r. ⌜ (d ≤ 3 → r % 256 + 1 ≡ 2 ^ d) ⌝ }
 {
     if d == 0 {
-        return 1;
+        return 0;
     }
     if d == 1 {
-        return 2;
+        return 1;
     }
     if d == 2 {
-        return 4;
+        return 3;
     }
-    8
+    7
 }
 
 // A row with another number for set n.
@@ -180,17 +181,17 @@ pub fn with_set(b: Buckets, n: u8, size: u8, high: u8, low: u8, d: u8) -> Bucket
     let s = b.size;
     let h = b.high;
     let l = b.low;
-    let t = b.span;
+    let t = b.last;
     let assigned = b.assigned;
     let sizes = put(s, n, wide16(size));
     let highs = put(h, n, wide16(high));
     let lows = put(l, n, wide16(low));
-    let spans = put(t, n, ticks_of(d));
+    let lasts = put(t, n, last_of(d));
     Buckets {
         size: sizes,
         high: highs,
         low: lows,
-        span: spans,
+        last: lasts,
         assigned: assigned,
     }
 }
@@ -218,14 +219,14 @@ pub fn with_assigned(b: Buckets, i: u8, n: u8) -> Buckets
     let sizes = b.size;
     let highs = b.high;
     let lows = b.low;
-    let spans = b.span;
+    let lasts = b.last;
     let a = b.assigned;
     let assigned = at_input(a, i, wide16(n));
     Buckets {
         size: sizes,
         high: highs,
         low: lows,
-        span: spans,
+        last: lasts,
         assigned: assigned,
     }
 }

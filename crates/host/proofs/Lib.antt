@@ -1,5 +1,10 @@
 -- The calls of a host, one by one and as whole histories.
 pub mod Arrays
+pub mod ByValue
 pub mod Calls
+pub mod Params
+pub mod Row
 pub mod Service
+pub mod Stored
 pub mod Thin
+pub mod Walk

@@ -1,26 +1,24 @@
--- Demands 2 and 3, and request #102, of the unit itself, proved: what the host holds is the rules' run.
+-- Demands 2 and 3, and requests #102 and #104, of the unit itself, proved: what the host holds is the rules' run.
 use Prim.Native.Nat.{ℕ}
 use mathlib.Core.Path.{_≡_, refl, ap, sym, _∙_}
 use mathlib.Core.List.{List, [], _∷_, _++_}
-use native.Mathlib.Omega.{arith}
 use Rattle.rules.specs.Events.{Event}
-use Rattle.rules.specs.Settings.{delay}
 use Rattle.rules.specs.State.{State, Ready, selected}
 use Rattle.rules.specs.History.{ready}
 use Rattle.rules.specs.Registers.{fresh}
 use Rattle.rules.specs.Reading.{read}
 use Rattle.rules.specs.Run as rules
 use Rattle.rules.specs.Run.{outcome, run}
+use Rattle.rules.specs.Service.{Served}
 use Rattle.rules.specs.Sheet.{Decoded, event, bad}
-use Rattle.rules.proofs.Counts.{least-delay}
-use Rattle.rules.proofs.Promise.{numbers, promise}
+use Rattle.rules.proofs.Promise.{promise, promise-in-figures, promise-at-start}
 use Rattle.rules.proofs.Comparison.{never-less-ready}
 use Rattle.rules.proofs.Standing.{ends-by-command-3}
 use Rattle.history.proofs.Kept.{ready-kept}
 use Rattle.unit.specs.Bridge.{modelOf}
 use Rattle.unit.specs.declared.Unit.{Unit as Stored}
 use Rattle.host.specs.Lent.{Places, Leads, wordOf}
-use Rattle.host.specs.Service.{Call, decoded, with, eventsOf, Lent, Holds, ownReady, Agreement, UnitPromise, UnitPromiseInFigures, UnitNeverLessReady, UnitEndsByCommand3}
+use Rattle.host.specs.Service.{Call, decoded, with, eventsOf, Lent, Holds, ownReady, Agreement, UnitServed, UnitPromise, UnitPromiseInFigures, UnitPromiseAtStart, UnitNeverLessReady, UnitEndsByCommand3}
 
 -- one call: the rules go on from the state that it left
 goes-on : (u w : Stored) (d : Decoded) (n : ℕ) (es : List Event) → Leads u d n w → run (modelOf u) (with d es) ≡ run (modelOf w) es
@@ -57,21 +55,25 @@ agreement es u h =
       register = λ address n shown. shown ∙ ap (λ (s : State). wordOf (read s address)) is;
     }
 
+-- what the rules serve, the unit serves
+module _ (before after later : List Event) (toSelected toReady r : ℕ) (u : Stored) (h : Holds (before ++ (after ++ later)) u)
+    (served : Served toSelected toReady r (run fresh before) after (run fresh (before ++ (after ++ later)))) where
+  unit-served : UnitServed toSelected toReady r (run fresh before) after u
+  unit-served =
+      let now = agreement (before ++ (after ++ later)) u h in
+      record { selected-is = λ ticks. now .selected-is ∙ served .selected-is ticks; ready-is = λ ticks. now .ready-is ∙ served .ready-is ticks }
+
 -- DEMAND 3 OF THE UNIT
 pub unit-promise : UnitPromise
-unit-promise before after later r u h p =
-    let now = agreement (before ++ (after ++ later)) u h in
-    let served = promise before after later r p in
-    record { selected-is = λ ticks. now .selected-is ∙ served .selected-is ticks; ready-is = λ ticks. now .ready-is ∙ served .ready-is ticks }
+unit-promise before after later r u h p = unit-served before after later _ _ r u h (promise before after later r p)
 
 pub unit-promise-in-figures : UnitPromiseInFigures
-unit-promise-in-figures before after later r n u h d p =
-    let served = unit-promise before after later r u h p in
-    let is = least-delay (delay (run fresh before .settings)) n d in
-    record {
-      selected-is = λ ticks. served .selected-is (omega (arith, numbers .qualify));
-      ready-is = λ ticks. served .ready-is (omega (arith, numbers .qualify, numbers .fill));
-    }
+unit-promise-in-figures before after later r n size setLevel clearLevel d u h is delayed p =
+    unit-served before after later _ _ r u h (promise-in-figures before after later r n size setLevel clearLevel d is delayed p)
+
+pub unit-promise-at-start : UnitPromiseAtStart
+unit-promise-at-start before after later r n u h is delayed p =
+    unit-served before after later _ _ r u h (promise-at-start before after later r n is delayed p)
 
 -- REQUEST #102 OF THE UNIT
 pub unit-never-less-ready : UnitNeverLessReady

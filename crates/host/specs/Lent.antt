@@ -24,8 +24,8 @@ abbrev pub given : State → Decoded → Outcome
 given s (event e) = outcome s e
 given s bad = record { refusal = decodedNumber bad; state = s }
 
--- What `unit_event` says of a call with these fields that finds unit u, returns n and leaves unit v: number and state are the rules', and a call that is
--- turned down leaves the stored unit itself as it was.
+-- What `unit_event`, `unit_set_bucket` and `unit_assign_bucket` say of a call that finds unit u, returns n and leaves unit v, where d is the event that was
+-- passed, or none: number and state are the rules', and a call that is turned down leaves the stored unit itself as it was.
 pub record Leads (u : code.Unit) (d : Decoded) (n : ℕ) (v : code.Unit) : Type 0 where
   pub rules : record { refusal = n; state = modelOf v } ≡ given (modelOf u) d
   pub left : (n ≡ 0 → ⊥) → v ≡ u

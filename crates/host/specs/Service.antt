@@ -1,12 +1,13 @@
--- Document 01, demands 2 and 3, and request #102, of the unit itself: what a host holds that makes a unit and lends it for each event.
-use Prim.Native.Nat.{ℕ, _+_, _≤_}
+-- Document 01, demands 2 and 3, and requests #102 and #104, of the unit itself: what a host holds that makes a unit and lends it for each event and call.
+use Prim.Native.Nat.{ℕ, _+_, _-_, _*_, _^_, _≤_, max}
 use mathlib.Core.Path.{_≡_}
 use mathlib.Core.Bool.{Bool, true, false}
 use mathlib.Core.List.{List, [], _∷_, _++_}
 use lib.Dec.{leb}
 use lib.IntN.{ℤ}
-use Rattle.rules.specs.Events.{Event, write}
+use Rattle.rules.specs.Events.{Event, write, setBucket, assignBucket}
 use Rattle.rules.specs.Settings.{delay}
+use Rattle.rules.specs.Buckets.{bucketFrom, startBucket, bucketOf}
 use Rattle.rules.specs.State.{State, selected, Ready}
 use Rattle.rules.specs.History.{readyBlocks}
 use Rattle.rules.specs.Registers.{fresh}
@@ -23,15 +24,19 @@ use Rattle.host.specs.Lent.{Made, Leads, wordOf, Shows}
 
 -- ---- the host
 
--- a call of `unit_event`: the fields that it passes
-pub record Call : Type 0 where
-  pub kind : ℕ
-  pub a : ℕ
-  pub b : ℕ
-  pub word : ℤ
+-- a call of a function that can change the unit, with what it passes
+pub data Call : Type 0 where
+  -- `unit_event`: kind, a, b, word
+  ofEvent : ℕ → ℕ → ℕ → ℤ → Call
+  -- `unit_set_bucket`: the set, size S, set level U, clear level L, and d
+  ofSet : ℕ → ℕ → ℕ → ℕ → ℕ → Call
+  -- `unit_assign_bucket`: the input, and the set
+  ofAssign : ℕ → ℕ → Call
 
 abbrev pub decoded : Call → Decoded
-decoded c = fields (c .kind) (c .a) (c .b) (c .word)
+decoded (ofEvent kind a b word) = fields kind a b word
+decoded (ofSet set size setLevel clearLevel d) = event (setBucket set size setLevel clearLevel d)
+decoded (ofAssign input set) = event (assignBucket input set)
 
 -- the events of a list of calls: a call whose fields are none is not one of them
 unfoldable pub with : Decoded → List Event → List Event
@@ -43,7 +48,7 @@ eventsOf [] = []
 eventsOf (c ∷ cs) = with (decoded c) (eventsOf cs)
 
 -- "each event gets the state that the one before it left, and nobody else writes that state in between": from unit u, call by call, to unit v. All that is
--- known of a call is what the contract of `unit_event` says of it.
+-- known of a call is what the contract of its function says of it.
 abbrev pub Lent : Stored → List Call → Stored → Type 0
 Lent u [] v = u ≡ v
 Lent u (c ∷ cs) v = (w : Stored) × ((n : ℕ) × (Leads u (decoded c) n w × Lent w cs v))
@@ -88,8 +93,9 @@ pub record UnitServed (toSelected toReady r : ℕ) (s : State) (after : List Eve
   pub ready-is : toReady ≤ acceptedTicks s after → ownReady u ≡ true
 
 -- THE PROMISE OF SERVICE OF THE UNIT. Take every list of events from a fresh unit, `before`, `after` and `later`, with the moment after `before`, every
--- reference r for which the provisos hold, and every unit u that the host holds after the list. After the accepted tick with number 860 + n, counted from
--- the moment, and after every later event, r is the unit's own selected; after the one with number 6,379 + n, and after every later event, Ready stands too.
+-- reference r for which the provisos hold, and every unit u that the host holds after the list. After the accepted tick with number `selectedTicks`, counted
+-- from the moment, and after every later event, r is the unit's own selected; after the one with number `readyTicks`, and after every later event, Ready
+-- stands too.
 abbrev pub UnitPromise : Type 0
 UnitPromise =
     (before after later : List Event) (r : ℕ) (u : Stored)
@@ -97,11 +103,24 @@ UnitPromise =
     → Provisos r (run fresh before) (after ++ later)
     → UnitServed (selectedTicks r (run fresh before)) (readyTicks r (run fresh before)) r (run fresh before) after u
 
--- The same in the customer's figures: "n is the least whole number with 4n at least 1,875 times the reversion delay in minutes."
+-- The same in the customer's figures: "n is the least whole number with 4n at least 1,875 times the reversion delay in minutes." #104: r's set at the moment
+-- is S, U, L, d, and "78 + the larger of 782 and (S − L) times 2^d" stands "for its 860, with 5,519 more to Ready".
 abbrev pub UnitPromiseInFigures : Type 0
 UnitPromiseInFigures =
+    (before after later : List Event) (r n size setLevel clearLevel d : ℕ) (u : Stored)
+    → Holds (before ++ (after ++ later)) u
+    → bucketOf (run fresh before .buckets) r ≡ bucketFrom size setLevel clearLevel d
+    → LeastDelay (delay (run fresh before .settings)) n
+    → Provisos r (run fresh before) (after ++ later)
+    → let toSelected = 78 + max 782 ((size - clearLevel) * 2 ^ d) + n in
+    UnitServed toSelected (toSelected + 5_519) r (run fresh before) after u
+
+-- With r's set as the sets start this is document 01's: 860 + n, and 6,379 + n.
+abbrev pub UnitPromiseAtStart : Type 0
+UnitPromiseAtStart =
     (before after later : List Event) (r n : ℕ) (u : Stored)
     → Holds (before ++ (after ++ later)) u
+    → bucketOf (run fresh before .buckets) r ≡ startBucket
     → LeastDelay (delay (run fresh before .settings)) n
     → Provisos r (run fresh before) (after ++ later)
     → UnitServed (860 + n) (6_379 + n) r (run fresh before) after u

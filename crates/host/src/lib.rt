@@ -79,14 +79,21 @@ pub extern "C" fn unit_event(u: &mut Unit, kind: u8, a: u8, b: u8, word: i32) ->
 
 // A set of bucket numbers of a lent unit is set: 14 or 0. A refusal stores nothing.
 #[no_mangle]
-pub extern "C" fn unit_set_bucket(u: &mut Unit, set: u8, size: u8, high: u8, low: u8, decay: u8) -> u8
-    ensures { λ r. ⌜ Leads (now (u .entry)) (sheet.event (setBucket set size high low decay)) r (now (u .exit)) ⌝ }
+pub extern "C" fn unit_set_bucket(
+    u: &mut Unit,
+    set: u8,
+    size: u8,
+    set_level: u8,
+    clear_level: u8,
+    decay: u8,
+) -> u8
+    ensures { λ r. ⌜ Leads (now (u .entry)) (sheet.event (setBucket set size «set_level» «clear_level» decay)) r (now (u .exit)) ⌝ }
 {
-    let o = set_bucket(*u, set, size, high, low, decay);
-    if o.refusal == 0 {
-        *u = o.unit;
+    let after = set_bucket(*u, set, size, set_level, clear_level, decay);
+    if after.refusal == 0 {
+        *u = after.unit;
     }
-    o.refusal
+    after.refusal
 }
 
 // An input of a lent unit is assigned a set: 6, 14 or 0. A refusal stores nothing.
@@ -94,11 +101,11 @@ pub extern "C" fn unit_set_bucket(u: &mut Unit, set: u8, size: u8, high: u8, low
 pub extern "C" fn unit_assign_bucket(u: &mut Unit, input: u8, set: u8) -> u8
     ensures { λ r. ⌜ Leads (now (u .entry)) (sheet.event (assignBucket input set)) r (now (u .exit)) ⌝ }
 {
-    let o = assign_bucket(*u, input, set);
-    if o.refusal == 0 {
-        *u = o.unit;
+    let given = assign_bucket(*u, input, set);
+    if given.refusal == 0 {
+        *u = given.unit;
     }
-    o.refusal
+    given.refusal
 }
 
 // A read of a lent unit.

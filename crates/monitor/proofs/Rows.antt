@@ -1,24 +1,27 @@
 -- The rows' new numbers, place by place, are those of the rules.
-use Prim.Native.Nat.{ℕ, zero, suc, _-_, _*_, _/_, _%_, _^_, _<_}
+use Prim.Native.Nat.{ℕ, zero, suc, _+_, _-_, _*_, _/_, _%_, _^_, _≤_, _<_, max}
 use mathlib.Core.Path.{_≡_, refl, _∙_}
+use mathlib.Core.Logic.{_⊎_, inl, inr}
 use native.Mathlib.Nat.{zero-mul, one-mul, mod-lt, one-le-pow}
 use native.Mathlib.Omega.{arith}
 use lib.Dec.{leb, eqb}
 use lib.ListN.{getD}
-use borrow.Author.Tests.{ne-eqb}
+use lib.Pow.{pow-mono}
+use borrow.Author.Tests.{leb-true, leb-false, lt-ltb, le-ltb, ne-eqb}
 use Rattle.rules.specs.Words.{bit}
 use Rattle.rules.specs.Monitors.{Input, levelAfter, decayAfter, alarmAfter, activityAfter, good, soakAfter, monitored}
 use Rattle.rules.specs.Selection.{eachFrom}
 use Rattle.rules.specs.Buckets.{bucketOf}
 use Rattle.rules.specs.Tick as Tick
+use Rattle.rules.proofs.Tests.{by-test}
 use Rattle.arith.proofs.Laws.{if-map-2}
-use Rattle.buckets.specs.Bridge.{eight, bucketAt, bucketsOf, numbersOf}
+use Rattle.buckets.specs.Bridge.{eight, ticksOf, bucketAt, bucketsOf, numbersOf}
 use Rattle.buckets.specs.declared.Buckets.{Buckets}
 use Rattle.buckets.specs.declared.Numbers.{Numbers}
 use Rattle.buckets.proofs.Sets.{set-at}
 use Rattle.inputs.specs.Bridge.{isSet, inputAt, inputsOf}
 use Rattle.inputs.specs.declared.Monitors.{Monitors}
-use Rattle.monitor.specs.Rows.{weight, activeAfter}
+use Rattle.monitor.specs.Rows.{weight, decayNumber, activeAfter}
 
 -- ---- an alarm that is a number
 
@@ -31,21 +34,42 @@ weighed (suc (suc x)) p h o = absurd (omega arith)
 -- a weight is set where the mask's bit is
 weight-bit : (mask k : ℕ) → isSet (weight mask k) ≡ bit mask k
 unfolding bit
-weight-bit mask k = weighed (mask / 2 ^ k % 2) (2 ^ k) (mod-lt (mask / 2 ^ k) (omega arith)) (one-le-pow k 2 (omega arith))
+weight-bit mask k = weighed (mask / 2 ^ k % 2) (2 ^ (k + 8)) (mod-lt (mask / 2 ^ k) (omega arith)) (one-le-pow (k + 8) 2 (omega arith))
 
 -- the alarm is read out of the two choices
 active-alarm : (high low level active : ℕ) → isSet (activeAfter high low level active) ≡ alarmAfter high low level (isSet active)
 unfolding activeAfter alarmAfter
 active-alarm high low level active = if-map-2 isSet (leb high level) (leb level low) 1 0 active refl refl
 
+-- ---- the decay count
+
+-- a weight is 0, or above every last count
+weight-high : (x p : ℕ) → x < 2 → 256 ≤ p → (x * p ≡ 0) ⊎ (256 ≤ x * p)
+weight-high zero p h o = inl (zero-mul p)
+weight-high (suc zero) p h o = inr (rw (one-mul p) o)
+weight-high (suc (suc x)) p h o = absurd (omega arith)
+
+decay-by : (last w decay : ℕ) → (w ≡ 0) ⊎ (256 ≤ w) → decayNumber last w decay ≡ decayAfter (ticksOf last) (isSet w) decay
+unfolding decayNumber decayAfter
+decay-by last w decay (inl z) =
+    rw z
+    (by-test (leb (ticksOf last) (decay + 1))
+    (λ e. rw (e, le-ltb (max 0 decay) (last % 256) (omega (arith, leb-true (ticksOf last) (decay + 1) e))))
+    (λ e. rw (e, lt-ltb (max 0 decay) (last % 256) (omega (arith, leb-false (ticksOf last) (decay + 1) e)))))
+decay-by last w decay (inr h) = rw (ne-eqb w 0 (λ e. omega arith), le-ltb (max w decay) (last % 256) (omega arith))
+
+decay-rule : (last mask k decay : ℕ) → decayNumber last (weight mask k) decay ≡ decayAfter (ticksOf last) (isSet (weight mask k)) decay
+decay-rule last mask k decay =
+    decay-by last (weight mask k) decay (weight-high (mask / 2 ^ k % 2) (2 ^ (k + 8)) (mod-lt (mask / 2 ^ k) (omega arith)) (pow-mono {i = 8} {j = k + 8} (omega arith)))
+
 -- ---- the new numbers at a place
 
 module _ (n : Numbers) (mask : ℕ) (m : Monitors) where
   abbrev levelAt : ℕ → ℕ
-  levelAt k = levelAfter (getD (n .sizes) k 0) (getD (n .spans) k 0) (isSet (weight mask k)) (getD (m .level) k 0) (getD (m .decay) k 0)
+  levelAt k = levelAfter (getD (n .sizes) k 0) (ticksOf (getD (n .lasts) k 0)) (isSet (weight mask k)) (getD (m .level) k 0) (getD (m .decay) k 0)
 
   abbrev decayAt : ℕ → ℕ
-  decayAt k = decayAfter (getD (n .spans) k 0) (isSet (weight mask k)) (getD (m .decay) k 0)
+  decayAt k = decayNumber (getD (n .lasts) k 0) (weight mask k) (getD (m .decay) k 0)
 
   abbrev activeAt : ℕ → ℕ
   activeAt k = activeAfter (getD (n .highs) k 0) (getD (n .lows) k 0) (levelAt k) (getD (m .active) k 0)
@@ -77,26 +101,28 @@ module _ (n : Numbers) (mask : ℕ) (m : Monitors) where
         remainder = remainderAt k;
         soak = soakAt k;
       })
-      (monitored (bucketAt (n .sizes) (n .highs) (n .lows) (n .spans) k) (bit mask k) (inputAt m k))
+      (monitored (bucketAt (n .sizes) (n .highs) (n .lows) (n .lasts) k) (bit mask k) (inputAt m k))
   unfolding activityAfter monitored
   place-after k =
       let bad = weight-bit mask k in
       let size = getD (n .sizes) k 0 in
       let high = getD (n .highs) k 0 in
       let low = getD (n .lows) k 0 in
-      let span = getD (n .spans) k 0 in
-      let level : levelAt k ≡ levelAfter size span (bit mask k) (getD (m .level) k 0) (getD (m .decay) k 0) =
-      λ i. levelAfter size span (bad i) (getD (m .level) k 0) (getD (m .decay) k 0) in
+      let last = getD (n .lasts) k 0 in
+      let ticks = ticksOf last in
+      let level : levelAt k ≡ levelAfter size ticks (bit mask k) (getD (m .level) k 0) (getD (m .decay) k 0) =
+      λ i. levelAfter size ticks (bad i) (getD (m .level) k 0) (getD (m .decay) k 0) in
       let alarm = active-alarm high low (levelAt k) (getD (m .active) k 0) ∙ (λ i. alarmAfter high low (level i) (isSet (getD (m .active) k 0))) in
+      let decay = decay-rule last mask k (getD (m .decay) k 0) ∙ (λ i. decayAfter ticks (bad i) (getD (m .decay) k 0)) in
       let frequency = isSet (getD (m .frequency) k 0) in
       λ i. record {
-        activity = record { level = level i; decay = decayAfter span (bad i) (getD (m .decay) k 0); alarm = alarm i };
+        activity = record { level = level i; decay = decay i; alarm = alarm i };
         frequency = frequency;
         remainder = remainderAt k;
         soak = soakAfter (good (alarm i) frequency (remainderAt k)) (getD (m .soak) k 0);
       }
 
-  pub rows-after : inputsOf after ≡ Tick.watched (λ i. bucketAt (n .sizes) (n .highs) (n .lows) (n .spans) (i - 1)) mask (inputsOf m)
+  pub rows-after : inputsOf after ≡ Tick.watched (λ i. bucketAt (n .sizes) (n .highs) (n .lows) (n .lasts) (i - 1)) mask (inputsOf m)
   unfolding inputsOf Tick.watched eachFrom
   rows-after i = eight (λ k. place-after k i)
 
@@ -104,6 +130,6 @@ module _ (n : Numbers) (mask : ℕ) (m : Monitors) where
 
 pub watched-by : (b : Buckets) (mask : ℕ) (m : Monitors)
     → let n = numbersOf b in
-    Tick.watched (λ i. bucketAt (n .sizes) (n .highs) (n .lows) (n .spans) (i - 1)) mask (inputsOf m) ≡ Tick.watched (bucketOf (bucketsOf b)) mask (inputsOf m)
+    Tick.watched (λ i. bucketAt (n .sizes) (n .highs) (n .lows) (n .lasts) (i - 1)) mask (inputsOf m) ≡ Tick.watched (bucketOf (bucketsOf b)) mask (inputsOf m)
 unfolding inputsOf numbersOf bucketsOf Tick.watched eachFrom
 watched-by b mask m i = eight (λ k. monitored (set-at b (getD (b .assigned) k 0) i) (bit mask k) (inputAt m k))

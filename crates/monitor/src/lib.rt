@@ -4,43 +4,45 @@ ghost use mathlib.Core.Path.{_≡_};
 ghost use Prim.Native.Nat.{_+_, _-_};
 ghost use lib.Dec.{leb};
 ghost use lib.ListN.{getD};
-ghost use Rattle.rules.specs.Monitors.{levelAfter, decayAfter, good, soakAfter};
+ghost use Rattle.rules.specs.Monitors.{levelAfter, good, soakAfter};
 ghost use Rattle.rules.specs.Tick as Tick;
-ghost use Rattle.buckets.specs.Bridge.{eight, bucketAt};
+ghost use Rattle.buckets.specs.Bridge.{eight, ticksOf, bucketAt};
 ghost use Rattle.inputs.specs.Bridge.{isSet, inputsOf, across};
-ghost use Rattle.monitor.specs.Rows.{weight, activeAfter};
+ghost use Rattle.monitor.specs.Rows.{weight, decayNumber, activeAfter};
 use arith::both;
 use arith::down;
 use arith::either;
+use arith::larger;
 use arith::up;
 use arith::wide16;
 use inputs::FULL_SOAK;
 
-// ---- one input: `size`, `high`, `low` and `span` are its bucket's size, set level, clear level and ticks of a decay
+// ---- one input: `size`, `high`, `low` and `last` are its bucket's size, set level, clear level and last decay count
 
 // Whether a clean tick brings the decay count to its end.
-fn decays(span: u16, decay: u16) -> bool
-    ensures { λ r. ⌜ r ≡ leb span (decay + 1) ⌝ }
+fn decays(last: u16, decay: u16) -> bool
+    ensures { λ r. ⌜ r ≡ leb (ticksOf last) (decay + 1) ⌝ }
 {
-    down(span) <= decay
+    last % 256 <= decay
 }
 
 // The rule `levelAfter`.
-fn level_of(size: u16, span: u16, bad: bool, level: u16, decay: u16) -> u16
-    ensures { λ r. ⌜ r ≡ levelAfter size span bad level decay ⌝ }
+fn level_of(size: u16, last: u16, bad: bool, level: u16, decay: u16) -> u16
+    ensures { λ r. ⌜ r ≡ levelAfter size (ticksOf last) bad level decay ⌝ }
 {
     either(
         bad,
         up(level, size),
-        either(decays(span, decay), down(level), level),
+        either(decays(last, decay), down(level), level),
     )
 }
 
-// The rule `decayAfter`.
-fn decay_of(span: u16, bad: bool, decay: u16) -> u16
-    ensures { λ r. ⌜ r ≡ decayAfter span bad decay ⌝ }
+// The rule `decayAfter`, by the weight of the input's bit: of an irregular tick it is above every last count. One test in place of two, so that eight lanes
+// are chosen side by side.
+fn decay_of(last: u16, weight: u16, decay: u16) -> u16
+    ensures { λ r. ⌜ r ≡ decayNumber last weight decay ⌝ }
 {
-    either(bad, 0, either(decays(span, decay), 0, up(decay, span)))
+    either(larger(weight, decay) < last % 256, up(decay, last), 0)
 }
 
 // The rule `alarmAfter`, as a number: 1 where it is set anew.
@@ -70,25 +72,25 @@ fn soak_of(active: u16, frequency: u16, remainder: u16, soak: u16) -> u16
 
 // ---- rows of eight
 
-// The irregular mask as a row: the weight of each input's bit, or 0.
+// The irregular mask as a row: the weight of each input's bit, 256 or more, or 0.
 fn irregular_row(mask: u8) -> [u16; 8]
     ensures { λ r. ⌜ r ≡ eight (weight mask) ⌝ }
 {
     let m = wide16(mask);
     [
-        m / 1 % 2 * 1,
-        m / 2 % 2 * 2,
-        m / 4 % 2 * 4,
-        m / 8 % 2 * 8,
-        m / 16 % 2 * 16,
-        m / 32 % 2 * 32,
-        m / 64 % 2 * 64,
-        m / 128 % 2 * 128,
+        m / 1 % 2 * 256,
+        m / 2 % 2 * 512,
+        m / 4 % 2 * 1024,
+        m / 8 % 2 * 2048,
+        m / 16 % 2 * 4096,
+        m / 32 % 2 * 8192,
+        m / 64 % 2 * 16384,
+        m / 128 % 2 * 32768,
     ]
 }
 
 fn level_row(s: [u16; 8], t: [u16; 8], b: [u16; 8], l: [u16; 8], d: [u16; 8]) -> [u16; 8]
-    ensures { λ r. ⌜ r ≡ eight (λ k. levelAfter (getD s k 0) (getD t k 0) (isSet (getD b k 0)) (getD l k 0) (getD d k 0)) ⌝ }
+    ensures { λ r. ⌜ r ≡ eight (λ k. levelAfter (getD s k 0) (ticksOf (getD t k 0)) (isSet (getD b k 0)) (getD l k 0) (getD d k 0)) ⌝ }
 {
     [
         level_of(s[0], t[0], b[0] != 0, l[0], d[0]),
@@ -103,17 +105,17 @@ fn level_row(s: [u16; 8], t: [u16; 8], b: [u16; 8], l: [u16; 8], d: [u16; 8]) ->
 }
 
 fn decay_row(t: [u16; 8], b: [u16; 8], d: [u16; 8]) -> [u16; 8]
-    ensures { λ r. ⌜ r ≡ eight (λ k. decayAfter (getD t k 0) (isSet (getD b k 0)) (getD d k 0)) ⌝ }
+    ensures { λ r. ⌜ r ≡ eight (λ k. decayNumber (getD t k 0) (getD b k 0) (getD d k 0)) ⌝ }
 {
     [
-        decay_of(t[0], b[0] != 0, d[0]),
-        decay_of(t[1], b[1] != 0, d[1]),
-        decay_of(t[2], b[2] != 0, d[2]),
-        decay_of(t[3], b[3] != 0, d[3]),
-        decay_of(t[4], b[4] != 0, d[4]),
-        decay_of(t[5], b[5] != 0, d[5]),
-        decay_of(t[6], b[6] != 0, d[6]),
-        decay_of(t[7], b[7] != 0, d[7]),
+        decay_of(t[0], b[0], d[0]),
+        decay_of(t[1], b[1], d[1]),
+        decay_of(t[2], b[2], d[2]),
+        decay_of(t[3], b[3], d[3]),
+        decay_of(t[4], b[4], d[4]),
+        decay_of(t[5], b[5], d[5]),
+        decay_of(t[6], b[6], d[6]),
+        decay_of(t[7], b[7], d[7]),
     ]
 }
 
@@ -174,9 +176,9 @@ pub fn watched(
     sizes: &[u16; 8],
     highs: &[u16; 8],
     lows: &[u16; 8],
-    spans: &[u16; 8],
+    lasts: &[u16; 8],
 )
-    ensures { λ _. ⌜ across level decay active (now (frequency .entry)) remainder soak (λ before after. inputsOf after ≡ Tick.watched (λ i. bucketAt (now (sizes .entry)) (now (highs .entry)) (now (lows .entry)) (now (spans .entry)) (i - 1)) mask (inputsOf before)) ⌝ }
+    ensures { λ _. ⌜ across level decay active (now (frequency .entry)) remainder soak (λ before after. inputsOf after ≡ Tick.watched (λ i. bucketAt (now (sizes .entry)) (now (highs .entry)) (now (lows .entry)) (now (lasts .entry)) (i - 1)) mask (inputsOf before)) ⌝ }
 {
     let b = irregular_row(mask);
     let l0 = *level;
@@ -188,9 +190,9 @@ pub fn watched(
     let size = *sizes;
     let high = *highs;
     let low = *lows;
-    let span = *spans;
-    let l = level_row(size, span, b, l0, d0);
-    let d = decay_row(span, b, d0);
+    let last = *lasts;
+    let l = level_row(size, last, b, l0, d0);
+    let d = decay_row(last, b, d0);
     let a = active_row(high, low, l, a0);
     let r = remainder_row(r0);
     let s = soak_row(a, f0, r, s0);

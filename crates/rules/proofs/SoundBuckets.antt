@@ -24,14 +24,15 @@ sound-bucket s u l d e =
     let levels = ltb l u && leb u s in
     let bounded = and-left (levels && leb s 255) (leb d 3) e in
     let ordered = and-left levels (leb s 255) bounded in
-    let few = leb-true d 3 (and-right (levels && leb s 255) (leb d 3) e) in
-    (few,
-    record {
-      clears = ltb-true l u (and-left (ltb l u) (leb u s) ordered);
-      sets = leb-true u s (and-right (ltb l u) (leb u s) ordered);
-      small = leb-true s 255 (and-right levels (leb s 255) bounded);
-      decays = (d, (few, refl));
-    })
+    let few = leb-true d 3 (and-right (levels && leb s 255) (leb d 3) e) in (
+      few,
+      record {
+        clears = ltb-true l u (and-left (ltb l u) (leb u s) ordered);
+        sets = leb-true u s (and-right (ltb l u) (leb u s) ordered);
+        small = leb-true s 255 (and-right levels (leb s 255) bounded);
+        decays = (d, (few, refl));
+      },
+    )
 
 pub record SetAllowed (n size setLevel clearLevel d : ℕ) : Type 0 where
   pub known : n ≤ 3

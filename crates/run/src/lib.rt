@@ -104,7 +104,7 @@ fn run_events(
     let sizes = numbers.sizes;
     let highs = numbers.highs;
     let lows = numbers.lows;
-    let spans = numbers.spans;
+    let lasts = numbers.lasts;
     let mut k = start;
     let mut i = 0;
     while i < n {
@@ -125,7 +125,7 @@ fn run_events(
             &sizes,
             &highs,
             &lows,
-            &spans,
+            &lasts,
             regs,
             keys,
             sums,

@@ -70,13 +70,13 @@ pub fn tick(
     sizes: &[u16; 8],
     highs: &[u16; 8],
     lows: &[u16; 8],
-    spans: &[u16; 8],
+    lasts: &[u16; 8],
     regs: &[u8; 27],
     keys: &[u16; 9],
     sums: &mut [i64; 64],
     building: &mut [i64; 64],
 ) -> Core
-    ensures { λ r. ⌜ across level decay active (now (frequency .entry)) remainder soak (λ before after. (backup : List ℤ) → numbers (now (sizes .entry)) (now (highs .entry)) (now (lows .entry)) (now (spans .entry)) ≡ numbersOf (before .buckets) → length (now (sums .entry)) ≡ 64 → now (keys .entry) ≡ keysFrom (settingsFrom (now (regs .entry))) → stateOf r after (now (regs .entry)) (now (sums .exit)) (now (building .exit)) backup ≡ rules.ticked mask lock x (stateOf k before (now (regs .entry)) (now (sums .entry)) (now (building .entry)) backup)) ⌝ }
+    ensures { λ r. ⌜ across level decay active (now (frequency .entry)) remainder soak (λ before after. (backup : List ℤ) → numbers (now (sizes .entry)) (now (highs .entry)) (now (lows .entry)) (now (lasts .entry)) ≡ numbersOf (before .buckets) → length (now (sums .entry)) ≡ 64 → now (keys .entry) ≡ keysFrom (settingsFrom (now (regs .entry))) → stateOf r after (now (regs .entry)) (now (sums .exit)) (now (building .exit)) backup ≡ rules.ticked mask lock x (stateOf k before (now (regs .entry)) (now (sums .entry)) (now (building .entry)) backup)) ⌝ }
 {
     // steps 1 and 2
     monitor::watched(
@@ -90,7 +90,7 @@ pub fn tick(
         sizes,
         highs,
         lows,
-        spans,
+        lasts,
     );
     // step 3
     let driven = looped(lock, k.choice.selected, k.pll);

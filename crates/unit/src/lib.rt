@@ -77,13 +77,13 @@ fn on_tick(
     sizes: &[u16; 8],
     highs: &[u16; 8],
     lows: &[u16; 8],
-    spans: &[u16; 8],
+    lasts: &[u16; 8],
     regs: &[u8; 27],
     keys: &[u16; 9],
     sums: &mut [i64; 64],
     building: &mut [i64; 64],
 ) -> Stepped
-    ensures { λ r. ⌜ rows.across level decay active (now (frequency .entry)) remainder soak (λ before after. (backup : List ℤ) → numbers (now (sizes .entry)) (now (highs .entry)) (now (lows .entry)) (now (spans .entry)) ≡ numbersOf (before .buckets) → length (now (sums .entry)) ≡ 64 → now (keys .entry) ≡ keysFrom (settingsFrom (now (regs .entry))) → Gives (record { core = k; rows = before; regs = now (regs .entry); sums = now (sums .entry); building = now (building .entry); backup = backup }) (events.tick mask lock x) (r .refusal) (record { core = r .core; rows = after; regs = now (regs .entry); sums = now (sums .exit); building = now (building .exit); backup = backup })) ⌝ }
+    ensures { λ r. ⌜ rows.across level decay active (now (frequency .entry)) remainder soak (λ before after. (backup : List ℤ) → numbers (now (sizes .entry)) (now (highs .entry)) (now (lows .entry)) (now (lasts .entry)) ≡ numbersOf (before .buckets) → length (now (sums .entry)) ≡ 64 → now (keys .entry) ≡ keysFrom (settingsFrom (now (regs .entry))) → Gives (record { core = k; rows = before; regs = now (regs .entry); sums = now (sums .entry); building = now (building .entry); backup = backup }) (events.tick mask lock x) (r .refusal) (record { core = r .core; rows = after; regs = now (regs .entry); sums = now (sums .exit); building = now (building .exit); backup = backup })) ⌝ }
 {
     let ok = in_range(x);
     if ok {
@@ -101,7 +101,7 @@ fn on_tick(
             sizes,
             highs,
             lows,
-            spans,
+            lasts,
             regs,
             keys,
             sums,
@@ -231,14 +231,14 @@ pub fn step(
     sizes: &[u16; 8],
     highs: &[u16; 8],
     lows: &[u16; 8],
-    spans: &[u16; 8],
+    lasts: &[u16; 8],
     regs: &mut [u8; 27],
     keys: &mut [u16; 9],
     sums: &mut [i64; 64],
     building: &mut [i64; 64],
     backup: &mut [i64; 64],
 ) -> Stepped
-    ensures { λ r. ⌜ across level decay active frequency remainder soak regs sums building backup (λ before after. numbers (now (sizes .entry)) (now (highs .entry)) (now (lows .entry)) (now (spans .entry)) ≡ numbersOf (before k .rows .buckets) → now (keys .entry) ≡ keysFrom (settingsFrom (now (regs .entry))) → Gives (before k) (eventOf e) (r .refusal) (after (r .core))) ⌝ }
+    ensures { λ r. ⌜ across level decay active frequency remainder soak regs sums building backup (λ before after. numbers (now (sizes .entry)) (now (highs .entry)) (now (lows .entry)) (now (lasts .entry)) ≡ numbersOf (before k .rows .buckets) → now (keys .entry) ≡ keysFrom (settingsFrom (now (regs .entry))) → Gives (before k) (eventOf e) (r .refusal) (after (r .core))) ⌝ }
     ensures { λ _. ⌜ (now (keys .entry) ≡ keysFrom (settingsFrom (now (regs .entry))) → now (keys .exit) ≡ keysFrom (settingsFrom (now (regs .exit)))) ⌝ }
 {
     places(*sums);
@@ -258,7 +258,7 @@ pub fn step(
             sizes,
             highs,
             lows,
-            spans,
+            lasts,
             regs,
             keys,
             sums,
@@ -374,7 +374,7 @@ pub fn handle(e: Event, u: Unit) -> Outcome
     let sizes = numbers.sizes;
     let highs = numbers.highs;
     let lows = numbers.lows;
-    let spans = numbers.spans;
+    let lasts = numbers.lasts;
     let mut regs = u.regs;
     let h = u.history;
     let mut sums = h.sums;
@@ -393,7 +393,7 @@ pub fn handle(e: Event, u: Unit) -> Outcome
         &sizes,
         &highs,
         &lows,
-        &spans,
+        &lasts,
         &mut regs,
         &mut keys,
         &mut sums,

@@ -16,18 +16,19 @@ returns c =
     let second = third .before in
     let first = second .before in
     let a = first .before .before .before .before .args in
-    let m = a .m in
-    ((λ i. inputsOf (record {
-      level = first .replaced .ensures i;
-      decay = second .replaced2 .ensures i;
-      active = third .replaced3 .ensures i;
-      frequency = m .frequency;
-      remainder = m .remainder;
-      soak = m .soak;
-      buckets = a .b;
-    }))
-    ∙ (λ i. eight (λ k. put-place (isSet (getD (a .concerned) k 0)) (a .size) (getD (m .level) k 0) (getD (m .decay) k 0) (getD (m .active) k 0) (isSet (getD (m .frequency) k 0)) (getD (m .remainder) k 0) (getD (m .soak) k 0) i)),
-    refl)
+    let m = a .m in (
+      (λ i. inputsOf (record {
+        level = first .replaced .ensures i;
+        decay = second .replaced2 .ensures i;
+        active = third .replaced3 .ensures i;
+        frequency = m .frequency;
+        remainder = m .remainder;
+        soak = m .soak;
+        buckets = a .b;
+      }))
+          ∙ (λ i. eight (λ k. put-place (isSet (getD (a .concerned) k 0)) (a .size) (getD (m .level) k 0) (getD (m .decay) k 0) (getD (m .active) k 0) (isSet (getD (m .frequency) k 0)) (getD (m .remainder) k 0) (getD (m .soak) k 0) i)),
+      refl,
+    )
 
 pub put-at-size-spec : {M : Type 1} → statement M
 put-at-size-spec = tie.close (tie.spec (λ c κs. tt) (λ c κs. tt) (λ c κs. tt) returns)

@@ -2,12 +2,12 @@
 use mathlib.Core.Path.{_∙_}
 use lib.ListN.{getD}
 use denote.Ref.{now}
-use Rattle.rules.specs.Monitors.{levelAfter, decayAfter, good, soakAfter}
-use Rattle.buckets.specs.Bridge.{eight, numbers}
+use Rattle.rules.specs.Monitors.{levelAfter, good, soakAfter}
+use Rattle.buckets.specs.Bridge.{eight, ticksOf, numbers}
 use Rattle.buckets.specs.declared.Numbers.{Numbers}
 use Rattle.inputs.specs.Bridge.{isSet, inputsOf}
 use Rattle.inputs.specs.declared.Monitors.{Monitors}
-use Rattle.monitor.specs.Rows.{activeAfter}
+use Rattle.monitor.specs.Rows.{decayNumber, activeAfter}
 use Rattle.monitor.proofs.Rows.{rows-after}
 use Rattle.monitor.proofs.watched.Statement.{statement}
 use Rattle.monitor.proofs.watched.Tie as tie
@@ -29,11 +29,11 @@ returns c buckets =
       soak = now (x .soak);
       buckets = buckets;
     } in
-    let n : Numbers = numbers (now (x .sizes)) (now (x .highs)) (now (x .lows)) (now (x .spans)) in
+    let n : Numbers = numbers (now (x .sizes)) (now (x .highs)) (now (x .lows)) (now (x .lasts)) in
     let b = cb .irregular-row .ensures in
     let level = cl .level-row .ensures
-    ∙ (λ i. eight (λ k. levelAfter (getD (n .sizes) k 0) (getD (n .spans) k 0) (isSet (getD (b i) k 0)) (getD (m .level) k 0) (getD (m .decay) k 0))) in
-    let decay = cd .decay-row .ensures ∙ (λ i. eight (λ k. decayAfter (getD (n .spans) k 0) (isSet (getD (b i) k 0)) (getD (m .decay) k 0))) in
+    ∙ (λ i. eight (λ k. levelAfter (getD (n .sizes) k 0) (ticksOf (getD (n .lasts) k 0)) (isSet (getD (b i) k 0)) (getD (m .level) k 0) (getD (m .decay) k 0))) in
+    let decay = cd .decay-row .ensures ∙ (λ i. eight (λ k. decayNumber (getD (n .lasts) k 0) (getD (b i) k 0) (getD (m .decay) k 0))) in
     let active = ca .active-row .ensures ∙ (λ i. eight (λ k. activeAfter (getD (n .highs) k 0) (getD (n .lows) k 0) (getD (level i) k 0) (getD (m .active) k 0))) in
     let remainder = cr .remainder-row .ensures in
     let soak = c .soak-row .ensures

@@ -31,15 +31,15 @@ lying b k level decay active frequency remainder soak regs sums building backup 
     stateOf k (record { level = level; decay = decay; active = active; frequency = frequency; remainder = remainder; soak = soak; buckets = b }) regs sums building backup
 
 abbrev Inv-loop : tie.InvT-loop
-Inv-loop part n regs₀ keys₀ sums₀ building₀ backup₀ out₀ level₀ decay₀ active₀ frequency₀ remainder₀ soak₀ sizes highs lows spans k₀ i₀ regs keys sums building backup out level decay active frequency remainder soak k i =
+Inv-loop part n regs₀ keys₀ sums₀ building₀ backup₀ out₀ level₀ decay₀ active₀ frequency₀ remainder₀ soak₀ sizes highs lows lasts k₀ i₀ regs keys sums building backup out level decay active frequency remainder soak k i =
     (i ≤ n)
     × (keys ≡ keysFrom (settingsFrom regs))
-    × ((b : Buckets) → numbers sizes highs lows spans ≡ numbersOf b
+    × ((b : Buckets) → numbers sizes highs lows lasts ≡ numbersOf b
     → Going (records (lying b k₀ level₀ decay₀ active₀ frequency₀ remainder₀ soak₀ regs₀ sums₀ building₀ backup₀) (eventsOf n part)) out₀ (4 * i)
     (lying b k level decay active frequency remainder soak regs sums building backup) (eventsOf (n - i) (drop (8 * i) part)) out)
 
 abbrev μ-loop : tie.MeasureT-loop
-μ-loop part n regs₀ keys₀ sums₀ building₀ backup₀ out₀ level₀ decay₀ active₀ frequency₀ remainder₀ soak₀ sizes highs lows spans k₀ i₀ regs keys sums building backup out level decay active frequency remainder soak k i =
+μ-loop part n regs₀ keys₀ sums₀ building₀ backup₀ out₀ level₀ decay₀ active₀ frequency₀ remainder₀ soak₀ sizes highs lows lasts k₀ i₀ regs keys sums building backup out level decay active frequency remainder soak k i =
     n - i
 
 -- where the loop began: with the numbers of the unit's sets

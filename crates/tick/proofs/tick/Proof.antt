@@ -65,7 +65,7 @@ returns c buckets backup lanes h e =
       buckets = buckets;
     } in
     let seen = watching .watched .ensures buckets
-    ∙ (λ i. watched (λ j. bucketAt (lanes i .sizes) (lanes i .highs) (lanes i .lows) (lanes i .spans) (j - 1)) (a .mask) (inputsOf before))
+    ∙ (λ i. watched (λ j. bucketAt (lanes i .sizes) (lanes i .highs) (lanes i .lows) (lanes i .lasts) (j - 1)) (a .mask) (inputsOf before))
     ∙ watched-by buckets (a .mask) before in
     let loop = driven .looped .ensures in
     let inputs = alarms .alarmed .ensures rows

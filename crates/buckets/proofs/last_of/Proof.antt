@@ -1,9 +1,9 @@
--- 2^d, at each d.
+-- One less than 2^d, at each d.
 use Prim.Native.Nat.{_^_}
 use mathlib.Core.Path.{_≡_, refl}
 use native.Mathlib.Omega.{arith}
-use Rattle.buckets.proofs.ticks_of.Statement.{statement}
-use Rattle.buckets.proofs.ticks_of.Tie as tie
+use Rattle.buckets.proofs.last_of.Statement.{statement}
+use Rattle.buckets.proofs.last_of.Tie as tie
 
 returns : tie.Need-returns
 returns c h = rw (c .if1 .taken) refl
@@ -19,5 +19,5 @@ returns-4 c h =
     let last : c .before .before .before .args .d ≡ 3 = omega (arith, h, c .before .before .if1 .left, c .before .if2 .left, c .if3 .left) in
     rw last refl
 
-pub ticks-of-spec : {M : Type 1} → statement M
-ticks-of-spec = tie.close (tie.spec returns returns-2 returns-3 returns-4)
+pub last-of-spec : {M : Type 1} → statement M
+last-of-spec = tie.close (tie.spec returns returns-2 returns-3 returns-4)
