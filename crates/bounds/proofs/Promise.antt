@@ -3,19 +3,20 @@ use Prim.Native.Nat.{ℕ, zero, suc, _-_, _≤_}
 use mathlib.Core.Path.{_≡_, refl, sym, subst, _∙_}
 use mathlib.Core.Logic.{inl}
 use mathlib.Core.Bool.{false, false≢true}
-use mathlib.Core.List.{[], _++_, append-nil}
+use mathlib.Core.List.{List, [], _++_, append-nil}
 use native.Mathlib.Omega.{arith}
 use native.Mathlib.Nat.{div-eq-of-lt}
 use lib.Pow.{pow-mono}
 use Rattle.rules.specs.Words.{bitOf}
+use Rattle.rules.specs.Events.{Event}
 use Rattle.rules.specs.State.{State}
 use Rattle.rules.specs.Run.{next, run}
 use Rattle.rules.specs.Preference.{Unmasked, Preferred}
-use Rattle.rules.specs.Service.{AllFair, selectedTicks, readyTicks, acceptedTicks, Served}
+use Rattle.rules.specs.Service.{Provisos, AllFair, selectedTicks, readyTicks, acceptedTicks, Served}
 use Rattle.rules.specs.Registers.{fresh}
 use Rattle.rules.proofs.Promise.{promise}
 use Rattle.rules.proofs.Computing.{computing}
-use Rattle.bounds.specs.Promise.{lead, moment, oneTick, ticks, AtTheMoment, Met, AllCounted, Kept, NotBettered, NotReadyBefore, Numbers}
+use Rattle.bounds.specs.Promise.{settings, alarmed, refilled, moment, oneTick, ticks, AlarmSet, BucketFull, AtStart, AtLargest}
 
 -- ---- the settings at the moment
 
@@ -25,14 +26,14 @@ unfolding computing
 beyond i h = rw (div-eq-of-lt (pow-mono {i = 2} {j = i - 1} (omega arith)))
 
 -- so 2 is the only other input that is unmasked
-second : (i : ℕ) → 1 ≤ i → (i ≡ 1 → ⊥) → Unmasked (moment .settings) i → i ≡ 2
-unfolding computing lead
+second : (i : ℕ) → 1 ≤ i → (i ≡ 1 → ⊥) → Unmasked (moment settings .settings) i → i ≡ 2
+unfolding computing settings
 second i low ne u =
     let within : 3 ≤ i → ⊥ = λ h. false≢true (sym (beyond i h) ∙ u) in
     omega arith
 
-preferred : Preferred 1 (moment .settings)
-unfolding computing lead
+preferred : Preferred 1 (moment settings .settings)
+unfolding computing settings
 preferred =
     record {
       unmasked = refl;
@@ -52,32 +53,53 @@ unfolding computing
 counted zero s = refl
 counted (suc k) s = omega (arith, counted k (next s oneTick))
 
+-- the promise, with nothing after the ticks
+kept : (lead : List Event) (k : ℕ) → Provisos 1 (moment lead) (ticks k)
+    → Served (selectedTicks 1 (moment lead)) (readyTicks 1 (moment lead)) 1 (moment lead) (ticks k) (run fresh (lead ++ ticks k))
+kept lead k met =
+    subst (λ es. Served (selectedTicks 1 (moment lead)) (readyTicks 1 (moment lead)) 1 (moment lead) (ticks k) (run fresh (lead ++ es))) (append-nil (ticks k))
+    (promise lead (ticks k) [] 1 (rw (append-nil (ticks k)) met))
+
 -- ---- the statements
 
-pub atTheMoment : AtTheMoment
-unfolding computing lead
-atTheMoment = refl
+pub alarmSet : AlarmSet
+unfolding computing settings alarmed
+alarmSet = refl
 
-pub met : Met
-unfolding computing lead
-met k = record { low = omega arith; high = omega arith; automatic = refl; clear = refl; preferred = preferred; fair = fair k moment }
+pub bucketFull : BucketFull
+unfolding computing settings refilled
+bucketFull = refl
 
-pub allCounted : AllCounted
-allCounted k = counted k moment
+met-alarmed : (k : ℕ) → Provisos 1 (moment alarmed) (ticks k)
+unfolding computing settings alarmed
+met-alarmed k = record { low = omega arith; high = omega arith; automatic = refl; clear = refl; preferred = preferred; fair = fair k (moment alarmed) }
 
-pub kept : Kept
-kept k =
-    subst (λ es. Served (selectedTicks 1 moment) (readyTicks 1 moment) 1 moment (ticks k) (run fresh (lead ++ es))) (append-nil (ticks k))
-    (promise lead (ticks k) [] 1 (rw (append-nil (ticks k)) (met k)))
+met-refilled : (k : ℕ) → Provisos 1 (moment refilled) (ticks k)
+unfolding computing settings refilled
+met-refilled k = record { low = omega arith; high = omega arith; automatic = refl; clear = refl; preferred = preferred; fair = fair k (moment refilled) }
 
-pub notBettered : NotBettered
-unfolding computing lead
-notBettered = refl
+pub atStart : AtStart
+unfolding computing settings alarmed
+atStart =
+    record {
+      met = met-alarmed;
+      counted = λ k. counted k (moment alarmed);
+      kept = λ k. kept alarmed k (met-alarmed k);
+      first-number = refl;
+      second-number = refl;
+      notBettered = refl;
+      notReadyBefore = refl;
+    }
 
-pub notReadyBefore : NotReadyBefore
-unfolding computing lead
-notReadyBefore = refl
-
-pub numbers : Numbers
-unfolding computing lead
-numbers = refl
+pub atLargest : AtLargest
+unfolding computing settings refilled
+atLargest =
+    record {
+      met = met-refilled;
+      counted = λ k. counted k (moment refilled);
+      kept = λ k. kept refilled k (met-refilled k);
+      first-number = refl;
+      second-number = refl;
+      notBettered = refl;
+      notReadyBefore = refl;
+    }

@@ -1,36 +1,55 @@
--- Document 01, "Demand 3", on one history, with r = 1: the promise's provisos can be met, and neither 860 + n nor 6,379 + n can be bettered.
+-- Document 01, "Demand 3", and request #104 of document 02, on two histories, with r = 1: the promise's provisos can be met, and neither of its numbers can
+-- be bettered, with the sets as they start and with one whose (S − L) times 2^d is larger than 782.
 use Prim.Native.Nat.{ℕ, _+_, _-_}
 use mathlib.Core.Path.{_≡_}
 use mathlib.Core.Bool.{true, false}
 use mathlib.Core.List.{List, [], _∷_, _++_}
 use lib.IntN.{pos}
 use lib.ListN.{replicate}
-use Rattle.rules.specs.Events.{Event, tick, measurement, write}
+use Rattle.rules.specs.Events.{Event, tick, measurement, write, setBucket, assignBucket}
 use Rattle.rules.specs.Monitors.{alarmTicks}
 use Rattle.rules.specs.Selection.{input}
 use Rattle.rules.specs.State.{State, selected, Ready}
 use Rattle.rules.specs.Registers.{fresh}
 use Rattle.rules.specs.Run.{run}
 use Rattle.rules.specs.Service.{Provisos, selectedTicks, readyTicks, acceptedTicks, Served}
-use Rattle.rules.specs.Table.{_is_, Holds}
+use Rattle.rules.specs.Table.{Row, _is_, Holds}
 
--- ---- the history
+-- ---- the two histories
 
 -- Automatic, a delay of a minute, inputs 1 and 2 unmasked, input 2 revertive and of priority 1, so behind input 1, which has 0; both are measured.
+unfoldable pub settings : List Event
+settings = write 0x40 1 ∷ write 0x43 1 ∷ write 0x42 0b11 ∷ write 0x1d 0b1001 ∷ measurement 1 (pos 0) ∷ measurement 2 (pos 0) ∷ []
+
+unlocked : ℕ → List Event
+unlocked k = replicate k (tick 0 false (pos 0))
+
 -- 79 ticks qualify both, and 1 is selected; 782 more without lock set its lock alarm, and 2 is selected.
-unfoldable pub lead : List Event
-lead =
-    write 0x40 1 ∷ write 0x43 1 ∷ write 0x42 0b11 ∷ write 0x1d 0b1001
-    ∷ measurement 1 (pos 0) ∷ measurement 2 (pos 0)
-    ∷ replicate (79 + 782) (tick 0 false (pos 0))
+unfoldable pub alarmed : List Event
+unfolding unlocked
+alarmed = settings ++ unlocked (79 + 782)
+
+-- 79 ticks qualify both, and 1 is selected; then set 1 is set to 255, 1, 0, 3, and 1 is assigned to it.
+unfoldable pub refilled : List Event
+unfolding unlocked
+refilled = settings ++ (unlocked 79 ++ (setBucket 1 255 1 0 3 ∷ assignBucket 1 1 ∷ []))
 
 -- the state at the moment
-abbrev pub moment : State
-moment = run fresh lead
+abbrev pub moment : List Event → State
+moment lead = run fresh lead
 
--- 1's lock alarm has just been set, and 2 is selected
-abbrev pub AtTheMoment : Type 0
-AtTheMoment = Holds (input (moment .inputs) 1 .remainder is alarmTicks ∷ selected moment is 2 ∷ [])
+-- at the moment: 1's lock alarm has just been set, and 2 is selected
+abbrev pub AlarmSet : Type 0
+AlarmSet = Holds (input (moment alarmed .inputs) 1 .remainder is alarmTicks ∷ selected (moment alarmed) is 2 ∷ [])
+
+-- at the moment: 1 is still selected, its bucket is at its size, and its activity alarm is set
+abbrev pub BucketFull : Type 0
+BucketFull =
+    Holds
+    (input (moment refilled .inputs) 1 .activity .level is 255
+    ∷ input (moment refilled .inputs) 1 .activity .alarm is true
+    ∷ selected (moment refilled) is 1
+    ∷ [])
 
 -- from the moment on: k ticks, irregular for no input, that report lock
 abbrev pub oneTick : Event
@@ -39,27 +58,24 @@ oneTick = tick 0 true (pos 0)
 abbrev pub ticks : ℕ → List Event
 ticks k = replicate k oneTick
 
--- ---- the statements
+-- ---- the statements, of a history `lead` up to the moment
 
--- the provisos hold, however many ticks come
-abbrev pub Met : Type 0
-Met = (k : ℕ) → Provisos 1 moment (ticks k)
+pub record Exact (lead : List Event) (toSelected toReady : ℕ) : Type 0 where
+  -- the provisos hold, however many ticks come, and each of the ticks counts
+  pub met : (k : ℕ) → Provisos 1 (moment lead) (ticks k)
+  pub counted : (k : ℕ) → acceptedTicks (moment lead) (ticks k) ≡ k
+  -- so the promise comes true, with these numbers
+  pub kept : (k : ℕ) → Served toSelected toReady 1 (moment lead) (ticks k) (run fresh (lead ++ ticks k))
+  pub first-number : selectedTicks 1 (moment lead) ≡ toSelected
+  pub second-number : readyTicks 1 (moment lead) ≡ toReady
+  -- one tick fewer than each of them does not serve: 2 is still selected; Ready does not stand
+  pub notBettered : selected (run fresh (lead ++ ticks (toSelected - 1))) ≡ 2
+  pub notReadyBefore : Ready (run fresh (lead ++ ticks (toReady - 1))) ≡ false
 
--- and each of the ticks counts
-abbrev pub AllCounted : Type 0
-AllCounted = (k : ℕ) → acceptedTicks moment (ticks k) ≡ k
+-- 860 + n and 6,379 + n, with n = 469
+abbrev pub AtStart : Type 0
+AtStart = Exact alarmed 1_329 6_848
 
--- so the promise comes true on this history
-abbrev pub Kept : Type 0
-Kept = (k : ℕ) → Served (selectedTicks 1 moment) (readyTicks 1 moment) 1 moment (ticks k) (run fresh (lead ++ ticks k))
-
--- one tick fewer than each of the promise's numbers does not serve: the provisos hold and each tick counts, but 2 is still selected; Ready does not stand
-abbrev pub NotBettered : Type 0
-NotBettered = selected (run fresh (lead ++ ticks (selectedTicks 1 moment - 1))) ≡ 2
-
-abbrev pub NotReadyBefore : Type 0
-NotReadyBefore = Ready (run fresh (lead ++ ticks (readyTicks 1 moment - 1))) ≡ false
-
--- the promise's numbers here, with n = 469
-abbrev pub Numbers : Type 0
-Numbers = Holds (selectedTicks 1 moment is (860 + 469) ∷ readyTicks 1 moment is (6379 + 469) ∷ [])
+-- 2,118 + n and 5,519 more: (255 − 0) times 2^3 is 2,040
+abbrev pub AtLargest : Type 0
+AtLargest = Exact refilled 2_587 8_106

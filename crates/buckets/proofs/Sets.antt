@@ -7,10 +7,9 @@ use native.Mathlib.Nat.{mod-lt}
 use lib.Dec.{eqb}
 use lib.ListN.{getD, set}
 use Rattle.rules.specs.Words.{if_then_else_, isInput}
-use Rattle.rules.specs.Monitors.{Bucket}
 use Rattle.rules.specs.Buckets.{startBucket}
 use Rattle.rules.proofs.Tests.{high}
-use Rattle.buckets.specs.Bridge.{four, eight, bucketAt, bucketsOf}
+use Rattle.buckets.specs.Bridge.{four, eight, bucketIn, bucketsOf}
 use Rattle.buckets.specs.declared.Buckets.{Buckets}
 
 pub set-four : {A : Type 0} (f : ℕ → A) (n : ℕ) (v : A) → n ≤ 3 → four (λ k. if eqb n k then v else f k) ≡ set (four f) n v
@@ -34,19 +33,6 @@ set-eight f (suc (suc (suc (suc (suc (suc (suc (suc (suc i))))))))) v h =
     let most : suc (suc (suc (suc (suc (suc (suc (suc (suc i)))))))) ≤ 8 = high 1 8 _ h in
     absurd (omega arith)
 
--- a bucket chosen number by number
-pub bucket-if : (t : Bool) (b c : Bucket)
-    → _≡_ {A = Bucket}
-    (record {
-      size = if t then b .size else c .size;
-      setLevel = if t then b .setLevel else c .setLevel;
-      clearLevel = if t then b .clearLevel else c .clearLevel;
-      decayTicks = if t then b .decayTicks else c .decayTicks;
-    })
-    (if t then b else c)
-bucket-if true b c = refl
-bucket-if false b c = refl
-
 -- a set number 0 to 3 has no higher bits
 pub set-number : (t : Bool) (n x : ℕ) → n ≤ 3 → (if t then n else x) % 4 ≡ (if t then n else x % 4)
 set-number true n x h = omega arith
@@ -61,7 +47,7 @@ four-at f d (suc (suc zero)) h = refl
 four-at f d (suc (suc (suc zero))) h = refl
 four-at f d (suc (suc (suc (suc n)))) h = absurd (omega arith)
 
--- number by number from the rows at its set's place, and from the rules' sets
-pub set-at : (b : Buckets) (n : ℕ) → bucketAt (b .size) (b .high) (b .low) (b .last) (n % 4) ≡ getD (bucketsOf b .sets) (n % 4) startBucket
+-- from the word at its set's place, and from the rules' sets
+pub set-at : (b : Buckets) (n : ℕ) → bucketIn (getD (b .sets) (n % 4) 0) ≡ getD (bucketsOf b .sets) (n % 4) startBucket
 unfolding bucketsOf
-set-at b n = sym (four-at (bucketAt (b .size) (b .high) (b .low) (b .last)) startBucket (n % 4) (mod-lt n (omega arith)))
+set-at b n = sym (four-at (λ k. bucketIn (getD (b .sets) k 0)) startBucket (n % 4) (mod-lt n (omega arith)))

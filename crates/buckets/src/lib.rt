@@ -1,6 +1,6 @@
 // The four sets of bucket numbers and the set of each input (document 02, #104): fresh, as a row of eight for the ticks, and set or assigned anew.
 // A set's numbers are its size, the level that sets the activity alarm, the level that clears it, and the last decay count: one less than the ticks of a
-// decay, of which the lowest byte counts, so that it is below 256 whatever is stored.
+// decay.
 ghost use mathlib.Core.Path.{_≡_};
 ghost use Prim.Native.Nat.{_+_, _%_, _^_, _≤_};
 ghost use lib.Dec.{eqb};
@@ -10,19 +10,18 @@ ghost use Rattle.rules.specs.Buckets as rules;
 ghost use Rattle.rules.specs.Buckets.{bucketFrom, freshBuckets, withSet, withAssigned};
 ghost use Rattle.rules.specs.Refusals.{setRefusal, assignRefusal};
 ghost use mathlib.Core.Bool.{true};
-ghost use Rattle.buckets.specs.Bridge.{four, eight, bucketsOf, numbersOf};
+ghost use Rattle.buckets.specs.Bridge.{four, eight, byteOf, ticksOf, bucketIn, wordOf, bucketsOf, numbersOf};
 use arith::both;
 use arith::either;
 use arith::one_to_eight;
 use arith::wide16;
 
-// The rows: each number of the four sets, set 0 first, and the set of each input, input 1 first. Of an input's set number the two lowest bits count.
+// The sets, set 0 first, each in one word: from its lowest byte up the size, the set level, the clear level, and the last decay count. And the set of each
+// input, input 1 first: of its number the two lowest bits count. Words of four bytes, since eight of them are fetched at each event and taken apart side by
+// side.
 #[repr(C)]
 pub struct Buckets {
-    pub size: [u16; 4],
-    pub high: [u16; 4],
-    pub low: [u16; 4],
-    pub last: [u16; 4],
+    pub sets: [u32; 4],
     pub assigned: [u16; 8],
 }
 
@@ -31,36 +30,58 @@ pub fn fresh_buckets() -> Buckets
     ensures { λ r. ⌜ bucketsOf r ≡ freshBuckets ⌝ }
 {
     Buckets {
-        size: [8; 4],
-        high: [6; 4],
-        low: [4; 4],
-        last: [1; 4],
+        sets: [0x01040608; 4],
         assigned: [0; 8],
     }
 }
 
 // ---- rows of eight
 
-// A number of set n.
-pub fn number_at(row: [u16; 4], n: u16) -> u16
-    ensures { λ r. ⌜ r ≡ getD row (n % 4) 0 ⌝ }
+// The word of set n.
+fn word_at(sets: [u32; 4], n: u16) -> u32
+    ensures { λ r. ⌜ r ≡ getD sets (n % 4) 0 ⌝ }
 {
-    row[(n % 4) as usize]
+    sets[(n % 4) as usize]
 }
 
-// For each input a number of its set.
-fn lanes(row: [u16; 4], assigned: [u16; 8]) -> [u16; 8]
-    ensures { λ r. ⌜ r ≡ eight (λ k. getD row (getD assigned k 0 % 4) 0) ⌝ }
+// For each input the word of its set.
+fn words(sets: [u32; 4], assigned: [u16; 8]) -> [u32; 8]
+    ensures { λ r. ⌜ r ≡ eight (wordOf sets assigned) ⌝ }
 {
     [
-        number_at(row, assigned[0]),
-        number_at(row, assigned[1]),
-        number_at(row, assigned[2]),
-        number_at(row, assigned[3]),
-        number_at(row, assigned[4]),
-        number_at(row, assigned[5]),
-        number_at(row, assigned[6]),
-        number_at(row, assigned[7]),
+        word_at(sets, assigned[0]),
+        word_at(sets, assigned[1]),
+        word_at(sets, assigned[2]),
+        word_at(sets, assigned[3]),
+        word_at(sets, assigned[4]),
+        word_at(sets, assigned[5]),
+        word_at(sets, assigned[6]),
+        word_at(sets, assigned[7]),
+    ]
+}
+
+// One byte of a word: that of the unit 1, 256, 65,536 or 16,777,216.
+fn byte_of(w: u32, unit: u32) -> u16
+    requires { ⌜ 1 ≤ unit ⌝ }
+    ensures { λ r. ⌜ r ≡ byteOf w unit ⌝ }
+{
+    (w / unit % 256) as u16
+}
+
+// That byte of eight words.
+fn bytes_of(w: [u32; 8], unit: u32) -> [u16; 8]
+    requires { ⌜ 1 ≤ unit ⌝ }
+    ensures { λ r. ⌜ r ≡ eight (λ k. byteOf (getD w k 0) unit) ⌝ }
+{
+    [
+        byte_of(w[0], unit),
+        byte_of(w[1], unit),
+        byte_of(w[2], unit),
+        byte_of(w[3], unit),
+        byte_of(w[4], unit),
+        byte_of(w[5], unit),
+        byte_of(w[6], unit),
+        byte_of(w[7], unit),
     ]
 }
 
@@ -76,21 +97,27 @@ pub struct Numbers {
 pub fn numbers_of(b: Buckets) -> Numbers
     ensures { λ r. ⌜ r ≡ numbersOf b ⌝ }
 {
-    let s = b.size;
-    let h = b.high;
-    let l = b.low;
-    let t = b.last;
-    let a = b.assigned;
-    let sizes = lanes(s, a);
-    let highs = lanes(h, a);
-    let lows = lanes(l, a);
-    let lasts = lanes(t, a);
+    let sets = b.sets;
+    let assigned = b.assigned;
+    let w = words(sets, assigned);
+    let sizes = bytes_of(w, 1);
+    let highs = bytes_of(w, 256);
+    let lows = bytes_of(w, 65_536);
+    let lasts = bytes_of(w, 16_777_216);
     Numbers {
         sizes: sizes,
         highs: highs,
         lows: lows,
         lasts: lasts,
     }
+}
+
+// The size of set n.
+pub fn size_of(b: Buckets, n: u8) -> u16
+    ensures { λ r. ⌜ r ≡ bucketIn (getD (b .sets) (n % 4) 0) .size ⌝ }
+{
+    let sets = b.sets;
+    byte_of(word_at(sets, wide16(n)), 1)
 }
 
 // The inputs that have set n: 1 for each, 0 for the others.
@@ -147,8 +174,8 @@ pub fn assign_refusal(i: u8, n: u8) -> u8
 // ---- sets and assignments after a call
 
 // "decay of 2^d ticks", for d from 0 to 3: the last count.
-fn last_of(d: u8) -> u16
-    ensures { λ r. ⌜ (d ≤ 3 → r % 256 + 1 ≡ 2 ^ d) ⌝ }
+fn last_of(d: u8) -> u32
+    ensures { λ r. ⌜ (d ≤ 3 → ticksOf r ≡ 2 ^ d) × (r ≤ 7) ⌝ }
 {
     if d == 0 {
         return 0;
@@ -162,15 +189,30 @@ fn last_of(d: u8) -> u16
     7
 }
 
-// A row with another number for set n.
-fn put(row: [u16; 4], n: u8, v: u16) -> [u16; 4]
-    ensures { λ r. ⌜ r ≡ four (λ k. if eqb n k then v else getD row k 0) ⌝ }
+// The word of a set, of numbers within the bounds.
+fn word_of(size: u8, high: u8, low: u8, d: u8) -> u32
+    ensures { λ r. ⌜ (d ≤ 3 → bucketIn r ≡ bucketFrom size high low d) ⌝ }
+{
+    let last = last_of(d);
+    size as u32 + 256 * high as u32 + 65_536 * low as u32 + 16_777_216 * last
+}
+
+// The choice by a test.
+fn pick(c: bool, a: u32, b: u32) -> u32
+    ensures { λ r. ⌜ r ≡ (if c then a else b) ⌝ }
+{
+    if c { a } else { b }
+}
+
+// The words with another for set n.
+fn put(sets: [u32; 4], n: u8, w: u32) -> [u32; 4]
+    ensures { λ r. ⌜ r ≡ four (λ k. if eqb n k then w else getD sets k 0) ⌝ }
 {
     [
-        either(n == 0, v, row[0]),
-        either(n == 1, v, row[1]),
-        either(n == 2, v, row[2]),
-        either(n == 3, v, row[3]),
+        pick(n == 0, w, sets[0]),
+        pick(n == 1, w, sets[1]),
+        pick(n == 2, w, sets[2]),
+        pick(n == 3, w, sets[3]),
     ]
 }
 
@@ -178,20 +220,11 @@ fn put(row: [u16; 4], n: u8, v: u16) -> [u16; 4]
 pub fn with_set(b: Buckets, n: u8, size: u8, high: u8, low: u8, d: u8) -> Buckets
     ensures { λ r. ⌜ (n ≤ 3 → d ≤ 3 → bucketsOf r ≡ withSet n (bucketFrom size high low d) (bucketsOf b)) ⌝ }
 {
-    let s = b.size;
-    let h = b.high;
-    let l = b.low;
-    let t = b.last;
+    let old = b.sets;
     let assigned = b.assigned;
-    let sizes = put(s, n, wide16(size));
-    let highs = put(h, n, wide16(high));
-    let lows = put(l, n, wide16(low));
-    let lasts = put(t, n, last_of(d));
+    let sets = put(old, n, word_of(size, high, low, d));
     Buckets {
-        size: sizes,
-        high: highs,
-        low: lows,
-        last: lasts,
+        sets: sets,
         assigned: assigned,
     }
 }
@@ -216,17 +249,11 @@ pub fn at_input(row: [u16; 8], i: u8, v: u16) -> [u16; 8]
 pub fn with_assigned(b: Buckets, i: u8, n: u8) -> Buckets
     ensures { λ r. ⌜ (isInput i ≡ true → n ≤ 3 → bucketsOf r ≡ withAssigned i n (bucketsOf b)) ⌝ }
 {
-    let sizes = b.size;
-    let highs = b.high;
-    let lows = b.low;
-    let lasts = b.last;
+    let sets = b.sets;
     let a = b.assigned;
     let assigned = at_input(a, i, wide16(n));
     Buckets {
-        size: sizes,
-        high: highs,
-        low: lows,
-        last: lasts,
+        sets: sets,
         assigned: assigned,
     }
 }

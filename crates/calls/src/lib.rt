@@ -43,8 +43,7 @@ pub fn assign_bucket(u: Unit, i: u8, n: u8) -> Outcome
         let b = m.buckets;
         let none = [0; 8];
         let concerned = buckets::at_input(none, i, 1);
-        let row = b.size;
-        let size = buckets::number_at(row, wide16(n));
+        let size = buckets::size_of(b, n);
         let sets = buckets::with_assigned(b, i, n);
         let rows = inputs::put_at_size(m, concerned, size, sets);
         let mut next = u;

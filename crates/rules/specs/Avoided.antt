@@ -1,16 +1,16 @@
 -- The traps of document 01 and the cheap programs of "Every result is settled", avoided, and a few more wrong
--- rules, those of request #102 among them: for each a small case in which the rules give something else.
+-- rules, those of requests #102 and #104 among them: for each a small case in which the rules give something else.
 use Prim.Native.Nat.{ℕ}
 use mathlib.Core.Bool.{Bool, true, false}
 use mathlib.Core.List.{List, [], _∷_}
 use lib.IntN.{pos, negsuc}
 use lib.ListN.{length, replicate}
 use Rattle.rules.specs.Words.{if_then_else_}
-use Rattle.rules.specs.Events.{tick, hit, write}
-use Rattle.rules.specs.Monitors.{Input, measured, fullSoak}
+use Rattle.rules.specs.Events.{tick, hit, write, setBucket, assignBucket}
+use Rattle.rules.specs.Monitors.{Activity, Input, measured, fullSoak, freshInput}
 use Rattle.rules.specs.Pll.{holdover, preLocked}
 use Rattle.rules.specs.Settings.{Settings}
-use Rattle.rules.specs.Selection.{Inputs, Choice, settled, chosen, waitAfter, switches}
+use Rattle.rules.specs.Selection.{Inputs, input, Choice, settled, chosen, waitAfter, switches}
 use Rattle.rules.specs.History.{History, ready, withBlocks, completed, noted, value, replaced, commanded, freshHistory}
 use Rattle.rules.specs.State.{State, selected}
 use Rattle.rules.specs.Tick.{holdingAfter}
@@ -62,6 +62,17 @@ inHoldover n =
 -- so many blocks in use, with a mean of 0, and so many building, with a mean of 1; the last reference is none
 abbrev blocks : ℕ → ℕ → History
 blocks kept building = withBlocks (replicate kept (pos 0)) true (replicate building (pos 128)) freshHistory
+
+-- an input's bucket and activity alarm, and those of one that is put at level S
+abbrev activityOf : ℕ → State → Activity
+activityOf i s = input (s .inputs) i .activity
+
+abbrev full : ℕ → Activity
+full size = record { level = size; decay = 0; alarm = true }
+
+-- the soak of input 1, qualified, after set 0 is set to S, 1, 0, 0 and a tick is clean
+abbrev soakOver : ℕ → ℕ
+soakOver size = input (run (unit (setting 0 0 0) (clocks true true true)) (setBucket 0 size 1 0 0 ∷ tick 0 true (pos 0) ∷ []) .inputs) 1 .soak
 
 -- ---- the table
 
@@ -122,6 +133,26 @@ table =
     ∷ length (commanded 3 (blocks 43 42) .kept) is 0
     ∷ commanded 2 (blocks 43 42) .builds is true
     ∷ commanded 3 (blocks 43 42) .builds is true
+    -- a set with U > S, L = U, d = 4, or the number 4, let through; those at the bounds refused; 14 before 6
+    ∷ refusal fresh (setBucket 0 7 8 4 1) is 14
+    ∷ refusal fresh (setBucket 0 8 6 6 1) is 14
+    ∷ refusal fresh (setBucket 0 8 6 4 4) is 14
+    ∷ refusal fresh (setBucket 4 8 6 4 1) is 14
+    ∷ refusal fresh (setBucket 3 255 255 254 3) is 0
+    ∷ refusal fresh (assignBucket 8 4) is 14
+    ∷ refusal fresh (assignBucket 9 4) is 6
+    -- a set that is set or assigned as it was and does nothing; one that concerns an input that does not have it
+    ∷ activityOf 8 (next fresh (setBucket 0 8 6 4 1)) is full 8
+    ∷ activityOf 2 (next fresh (assignBucket 2 0)) is full 8
+    ∷ activityOf 1 (next fresh (assignBucket 2 0)) is freshInput .activity
+    ∷ activityOf 2 (run fresh (assignBucket 2 1 ∷ setBucket 1 255 1 0 3 ∷ [])) is full 255
+    ∷ activityOf 1 (run fresh (assignBucket 2 1 ∷ setBucket 1 255 1 0 3 ∷ [])) is freshInput .activity
+    -- a level above S after a smaller set; set 0's numbers for all; a decay of d ticks
+    ∷ activityOf 1 (run fresh (setBucket 0 255 1 0 3 ∷ setBucket 0 8 6 4 1 ∷ [])) is full 8
+    ∷ activityOf 2 (run fresh (setBucket 1 9 6 4 0 ∷ assignBucket 2 1 ∷ tick 0 true (pos 0) ∷ [])) .level is 8
+    -- a soak that a call interrupts by itself: with S = L + 1 and d = 0 a clean tick clears the alarm at once
+    ∷ soakOver 1 is 79
+    ∷ soakOver 2 is 0
     -- "one with an invented 0x4e": 2 is masked
     ∷ read (unit (written 0x42 0b11111101 (fresh .settings)) (clocks true true true)) 0x4e .byte is 2
     -- "or hour count": the entering tick does not count, and an hour has 28,125

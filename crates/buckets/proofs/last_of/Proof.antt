@@ -1,23 +1,25 @@
 -- One less than 2^d, at each d.
-use Prim.Native.Nat.{_^_}
 use mathlib.Core.Path.{_≡_, refl}
 use native.Mathlib.Omega.{arith}
 use Rattle.buckets.proofs.last_of.Statement.{statement}
 use Rattle.buckets.proofs.last_of.Tie as tie
 
 returns : tie.Need-returns
-returns c h = rw (c .if1 .taken) refl
+returns c = ((λ h. rw (c .if1 .taken) refl), omega arith)
 
 returns-2 : tie.Need-returns-2
-returns-2 c h = rw (c .if2 .taken) refl
+returns-2 c = ((λ h. rw (c .if2 .taken) refl), omega arith)
 
 returns-3 : tie.Need-returns-3
-returns-3 c h = rw (c .if3 .taken) refl
+returns-3 c = ((λ h. rw (c .if3 .taken) refl), omega arith)
 
 returns-4 : tie.Need-returns-4
-returns-4 c h =
-    let last : c .before .before .before .args .d ≡ 3 = omega (arith, h, c .before .before .if1 .left, c .before .if2 .left, c .if3 .left) in
-    rw last refl
+returns-4 c = (
+  (λ h.
+      let last : c .before .before .before .args .d ≡ 3 = omega (arith, h, c .before .before .if1 .left, c .before .if2 .left, c .if3 .left) in
+      rw last refl),
+  omega arith,
+)
 
 pub last-of-spec : {M : Type 1} → statement M
 last-of-spec = tie.close (tie.spec returns returns-2 returns-3 returns-4)

@@ -1,4 +1,4 @@
--- Each number is what its call ensures.
+-- Each word is what its call ensures.
 use mathlib.Core.List.{[], _∷_}
 use borrow.Author.Needs.{needs}
 use Rattle.buckets.proofs.put.Statement.{statement}
@@ -6,10 +6,10 @@ use Rattle.buckets.proofs.put.Tie as tie
 
 returns : tie.Need-returns
 returns c =
-    λ i. c .before .before .before .either .ensures i
-    ∷ c .before .before .either2 .ensures i
-    ∷ c .before .either3 .ensures i
-    ∷ c .either4 .ensures i
+    λ i. c .before .before .before .pick .ensures i
+    ∷ c .before .before .pick2 .ensures i
+    ∷ c .before .pick3 .ensures i
+    ∷ c .pick4 .ensures i
     ∷ []
 
 pub put-spec : {M : Type 1} → statement M

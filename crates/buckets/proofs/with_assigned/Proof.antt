@@ -14,7 +14,7 @@ returns : tie.Need-returns
 unfolding withAssigned bucketsOf
 returns c input few =
     let wide = c .before in
-    let a = wide .before .before .before .before .before .before .args in
+    let a = wide .before .before .before .args in
     let b = a .b in
     let sets = bucketsOf b .sets in
     let rows = c .at-input .ensures ∙ (λ i. eight (λ k. if eqb (a .i) (k + 1) then wide .wide16 .ensures .0 i else getD (b .assigned) k 0)) in

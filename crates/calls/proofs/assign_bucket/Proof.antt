@@ -26,8 +26,7 @@ unfolding refusal effect afterAssign putAtSize eachFrom inputsOf
 returns c =
     let sets = c .before in
     let sized = sets .before in
-    let wide = sized .before in
-    let concerned = wide .before .before in
+    let concerned = sized .before in
     let tested = concerned .before .before .before in
     let numbered = tested .before in
     let a = numbered .before .args in
@@ -37,8 +36,7 @@ returns c =
     let ok = assign-allowed (a .i) (a .n) (sym number ∙ tested .if1 .taken) in
     let put = c .put-at-size .ensures in
     let low : a .n % 4 ≡ a .n = omega (arith, ok .1) in
-    let size = sized .number-at .ensures
-    ∙ ap (λ (n : ℕ). getD (b .size) (n % 4) 0) (wide .wide16 .ensures .0)
+    let size = sized .size-of .ensures
     ∙ ap (λ (x : Bucket). x .size) (set-at b (a .n))
     ∙ ap (λ (n : ℕ). setAt (bucketsOf b) n .size) low in
     called (a .u) (assignBucket (a .i) (a .n)) (c .put-at-size .result) _ _ (sym (tested .if1 .taken) ∙ number) refl
@@ -54,4 +52,4 @@ returns-2 c =
     turned-down (partsOf (a .u)) (assignBucket (a .i) (a .n)) (c .before .assign-refusal .ensures) (c .if1 .left)
 
 pub assign-bucket-spec : {M : Type 1} → statement M
-assign-bucket-spec = tie.close (tie.spec (λ c κs. tt) (λ c κs. tt) (λ c κs. tt) (λ c κs. tt) (λ c κs. tt) (λ c κs. tt) returns returns-2)
+assign-bucket-spec = tie.close (tie.spec (λ c κs. tt) (λ c κs. tt) (λ c κs. tt) (λ c κs. tt) (λ c κs. tt) returns returns-2)

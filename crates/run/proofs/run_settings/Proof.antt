@@ -79,7 +79,7 @@ loop-again c =
       frequency = row;
       remainder = row;
       soak = row;
-      buckets = record { size = row; high = row; low = row; last = row; assigned = row };
+      buckets = record { sets = row; assigned = row };
     } in
     let going : (m : Monitors) → _ = λ m.
     let rows = withSoak m (now (a .soak)) in
