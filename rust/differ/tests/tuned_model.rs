@@ -41,12 +41,13 @@ fn as_plain(tuned: &fast::Unit) -> Unit {
         decay: monitors.decay[i] as u8,
         activity_alarm: monitors.activity_alarm[i] == 1,
         frequency_alarm: monitors.frequency_alarm[i] == 1,
-        remainder: monitors.remainder[i],
+        remainder: monitors.remainder[i] as u16,
         soak: monitors.soak[i] as u8,
     };
     let blocks = |blocks: &fast::Blocks| -> Blocks { blocks.iter().collect() };
     Unit {
         inputs: [0, 1, 2, 3, 4, 5, 6, 7].map(input),
+        buckets: tuned.sets.buckets,
         pll: tuned.pll,
         selected: tuned.selected,
         wait: tuned.wait,

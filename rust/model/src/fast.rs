@@ -3,16 +3,19 @@
 //! rings, sheets run in place with nothing allocated. The rules are those of
 //! the plain model, which tells them; its answers must be the same.
 
+mod buckets;
 mod pages;
 
+pub use buckets::Sets;
 pub use pages::print;
 
 use crate::blocks::{BLOCKS_KEPT, SAMPLES_PER_BLOCK};
+use crate::buckets::{Buckets, Call};
 use crate::event::Event;
 use crate::history::BLOCKS_FOR_READY;
 use crate::monitors::{LOCK_ALARM_TICKS, SOAK_TICKS};
 use crate::pll::{Pll, State, UNLOCK_TICKS};
-use crate::refusal::Refusal;
+use crate::refusal::{number_of, Refusal};
 use crate::registers::{Register, Settings};
 use crate::selection::{Wait, FREE_RUN, NONE};
 use crate::sheet::{self, Record, BYTES_PER_EVENT, BYTES_PER_RECORD, BYTES_PER_SETTING};
@@ -23,10 +26,11 @@ const SAMPLES: RangeInclusive<i32> = -SAMPLE_LIMIT..=SAMPLE_LIMIT;
 const REFERENCES: RangeInclusive<u8> = 1..=8;
 
 /// One number for each input, an alarm 1 if set: of one width, and without
-/// branches, so that the machine can take all eight at once.
-pub type Lanes = [u16; 8];
+/// branches, so that the machine can take all eight at once. Signed, since it
+/// compares such numbers in one step; none is below 0.
+pub type Lanes = [i16; 8];
 
-const SOAKED: u16 = SOAK_TICKS as u16;
+const SOAKED: i16 = SOAK_TICKS as i16;
 
 /// What the monitors keep of each input, and the mask of the qualified ones.
 #[derive(Clone, Copy, Debug, PartialEq, Eq)]
@@ -54,25 +58,35 @@ impl Monitors {
     }
 
     /// Steps 1 and 2 of all inputs.
-    fn tick(&mut self, mask: u8) {
+    fn tick(&mut self, mask: u8, sets: &Sets) {
         let mut qualified = 0;
         for (i, irregular) in LANES[usize::from(mask)].into_iter().enumerate() {
-            let higher = (self.level[i] + 1).min(8);
-            let lower = self.level[i].saturating_sub(self.decay[i]);
+            // The decay's ticks are a power of two.
+            let count = (self.decay[i] + 1) & sets.decay_mask[i];
+            let decays = i16::from(count == 0);
+            let higher = (self.level[i] + 1).min(sets.size[i]);
+            let lower = (self.level[i] - decays).max(0);
             let level = (higher & irregular) | (lower & !irregular);
-            let kept = u16::from(level == 5) & self.activity_alarm[i];
-            let alarm = u16::from(level >= 6) | kept;
-            let remainder = self.remainder[i].saturating_sub(1);
+            let kept = i16::from(level > sets.clear_level[i]) & self.activity_alarm[i];
+            let alarm = i16::from(level >= sets.set_level[i]) | kept;
+            let remainder = (self.remainder[i] - 1).max(0);
             let good = alarm | self.frequency_alarm[i] | remainder == 0;
-            let soak = u16::from(good) * (self.soak[i] + 1).min(SOAKED);
-            qualified |= u16::from(soak == SOAKED) << i;
+            let soak = i16::from(good) * (self.soak[i] + 1).min(SOAKED);
+            qualified |= i16::from(soak == SOAKED) << i;
             self.level[i] = level;
-            self.decay[i] = (1 - self.decay[i]) & !irregular;
+            self.decay[i] = count & !irregular;
             self.activity_alarm[i] = alarm;
             self.remainder[i] = remainder;
             self.soak[i] = soak;
         }
         self.qualified = qualified as u8;
+    }
+
+    fn start_bucket(&mut self, input: u8, size: u8) {
+        let i = usize::from(input) - 1;
+        self.level[i] = i16::from(size);
+        self.activity_alarm[i] = 1;
+        self.decay[i] = 0;
     }
 
     fn empty_soak(&mut self, input: u8) {
@@ -82,7 +96,7 @@ impl Monitors {
     }
 
     fn set_lock_alarm(&mut self, input: u8) {
-        self.remainder[usize::from(input) - 1] = LOCK_ALARM_TICKS;
+        self.remainder[usize::from(input) - 1] = LOCK_ALARM_TICKS as i16;
         self.empty_soak(input);
     }
 
@@ -104,7 +118,7 @@ static LANES: [Lanes; 256] = {
     while place < 256 * 8 {
         let (mask, bit) = (place / 8, place % 8);
         if mask & (1 << bit) != 0 {
-            table[mask][bit] = 0xffff;
+            table[mask][bit] = -1;
         }
         place += 1;
     }
@@ -244,6 +258,7 @@ impl History {
 #[derive(Clone, Debug, PartialEq, Eq)]
 pub struct Unit {
     pub monitors: Monitors,
+    pub sets: Sets,
     pub pll: Pll,
     pub selected: u8,
     pub wait: Wait,
@@ -260,6 +275,7 @@ impl Unit {
         let settings = Settings::fresh();
         Unit {
             monitors: Monitors::fresh(),
+            sets: Sets::of(Buckets::fresh()),
             pll: Pll::fresh(),
             selected: NONE,
             wait: Wait::ZERO,
@@ -272,10 +288,7 @@ impl Unit {
 
     /// Takes one event: 0, or the number of its refusal.
     pub fn event(&mut self, event: &Event) -> u8 {
-        match self.take(event) {
-            Ok(()) => 0,
-            Err(refusal) => refusal.number(),
-        }
+        number_of(self.take(event))
     }
 
     fn take(&mut self, event: &Event) -> Result<(), Refusal> {
@@ -318,7 +331,7 @@ impl Unit {
 
     fn tick(&mut self, mask: u8, lock: bool, sample: i32) {
         let state_before = self.pll.state;
-        self.monitors.tick(mask);
+        self.monitors.tick(mask, &self.sets);
         if self.reference_selected() {
             self.pll.follow_lock(lock);
             if self.pll.unlock_run == UNLOCK_TICKS {
@@ -418,6 +431,22 @@ impl Unit {
             _ => {}
         }
         self.settings = settings;
+        Ok(())
+    }
+}
+
+impl Unit {
+    /// Takes one call: 0, or the number of its refusal.
+    pub fn call(&mut self, call: &Call) -> u8 {
+        number_of(self.change_buckets(call))
+    }
+
+    fn change_buckets(&mut self, call: &Call) -> Result<(), Refusal> {
+        let (buckets, concerned) = self.sets.buckets.called(call)?;
+        for input in concerned {
+            self.monitors.start_bucket(input, buckets.of(input).size);
+        }
+        self.sets = Sets::of(buckets);
         Ok(())
     }
 }

@@ -1,11 +1,12 @@
 //! The reference controller of the eight-input timing unit, written plainly
 //! from document 01 and from the requests of document 02. It is compared with
 //! the real controller; it shares no code with it. Sentences in quotation marks
-//! are document 01's, in `pages` and `building` document 02's.
+//! are document 01's, in `buckets`, `pages` and `building` document 02's.
 
 #![forbid(unsafe_code)]
 
 mod blocks;
+mod buckets;
 mod building;
 mod event;
 pub mod fast;
@@ -22,6 +23,7 @@ mod sheet;
 mod unit;
 
 pub use blocks::{Blocks, OpenBlock, BLOCKS_KEPT, SAMPLES_PER_BLOCK};
+pub use buckets::{BucketSet, Buckets, Call, BUCKET_SETS};
 pub use event::Event;
 pub use history::{History, BLOCKS_FOR_READY};
 pub use monitors::{Input, LOCK_ALARM_TICKS, SOAK_TICKS};

@@ -1,14 +1,11 @@
 //! The monitors of one input: tick steps 1 and 2, and measurements.
 
+use crate::buckets::BucketSet;
+
 /// "Good adds 1 to its soak up to 79 (10 s)"
 pub const SOAK_TICKS: u8 = 79;
 /// What a lock alarm's remainder starts from.
 pub const LOCK_ALARM_TICKS: u16 = 782;
-
-const LARGEST_LEVEL: u8 = 8;
-const TICKS_PER_DECAY: u8 = 2;
-const ALARM_SET_LEVEL: u8 = 6;
-const ALARM_CLEAR_LEVEL: u8 = 4;
 
 #[derive(Clone, Copy, Debug, PartialEq, Eq)]
 pub struct Input {
@@ -38,25 +35,35 @@ impl Input {
     /// Step 1. "Bucket: an irregular tick adds 1 up to 8 and zeroes the decay
     /// count. Otherwise the decay count rises; at 2 it is zeroed and the level
     /// falls by 1, not below 0. Activity alarm: set at level 6 or more, cleared
-    /// at 4 or less, kept at 5."
-    pub fn watch_activity(&mut self, irregular: bool) {
+    /// at 4 or less, kept at 5." Since document 02's #104 the input's set has
+    /// these numbers: "size S, set level U, clear level L, decay of 2^d ticks".
+    pub fn watch_activity(&mut self, irregular: bool, bucket: &BucketSet) {
         if irregular {
-            if self.level < LARGEST_LEVEL {
+            if self.level < bucket.size {
                 self.level += 1;
             }
             self.decay = 0;
         } else {
             self.decay += 1;
-            if self.decay == TICKS_PER_DECAY {
+            if self.decay == bucket.decay_ticks() {
                 self.decay = 0;
                 self.level = self.level.saturating_sub(1);
             }
         }
-        if self.level >= ALARM_SET_LEVEL {
+        if self.level >= bucket.set_level {
             self.activity_alarm = true;
-        } else if self.level <= ALARM_CLEAR_LEVEL {
+        } else if self.level <= bucket.clear_level {
             self.activity_alarm = false;
         }
+    }
+
+    /// Document 02, #104: "Setting or assigning a set, even as it was, puts
+    /// each input it concerns at level S, alarm set, decay count 0." The soak
+    /// stays as it is: the next tick judges.
+    pub fn start_bucket(&mut self, bucket: &BucketSet) {
+        self.level = bucket.size;
+        self.activity_alarm = true;
+        self.decay = 0;
     }
 
     /// Step 2. "A standing lock alarm's remainder falls by 1." "Good adds 1 to

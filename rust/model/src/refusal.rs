@@ -1,5 +1,5 @@
-//! The refusals of an event, a read or a sheet, with the numbers of "Turned
-//! down".
+//! The refusals of an event, a call, a read or a sheet, with the numbers of
+//! "Turned down" and of document 02.
 
 #[derive(Clone, Copy, Debug, PartialEq, Eq)]
 pub enum Refusal {
@@ -30,10 +30,20 @@ pub enum Refusal {
     /// "output under 4 bytes a record"; in document 02, #101: "a page output
     /// under 1,400 bytes a page"
     OutputTooShort = 13,
+    /// Document 02, #104: "set out of these bounds or set number over 3"
+    NoSuchBucketSet = 14,
 }
 
 impl Refusal {
     pub fn number(self) -> u8 {
         self as u8
+    }
+}
+
+/// The number that answers an event or a call: 0 if it is accepted.
+pub(crate) fn number_of(outcome: Result<(), Refusal>) -> u8 {
+    match outcome {
+        Ok(()) => 0,
+        Err(refusal) => refusal.number(),
     }
 }

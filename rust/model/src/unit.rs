@@ -1,12 +1,13 @@
 //! The whole unit: its state, and what each of its events does to it.
 
+use crate::buckets::{Buckets, Call};
 use crate::building::Building;
 use crate::event::Event;
 use crate::history::{HistoryUnder, SwitchRules};
 use crate::monitors::Input;
 use crate::old_rules::OldRules;
 use crate::pll::{Pll, State, UNLOCK_TICKS};
-use crate::refusal::Refusal;
+use crate::refusal::{number_of, Refusal};
 use crate::registers::{Register, Settings};
 use crate::selection::{state_after_selection, Candidates, Wait, NONE};
 
@@ -24,6 +25,7 @@ pub type OldUnit = UnitUnder<OldRules>;
 #[derive(Clone, Debug, PartialEq, Eq)]
 pub struct UnitUnder<R> {
     pub inputs: [Input; 8],
+    pub buckets: Buckets,
     pub pll: Pll,
     pub selected: u8,
     pub wait: Wait,
@@ -39,6 +41,7 @@ impl<R: SwitchRules> UnitUnder<R> {
     pub fn fresh() -> UnitUnder<R> {
         UnitUnder {
             inputs: [Input::fresh(); 8],
+            buckets: Buckets::fresh(),
             pll: Pll::fresh(),
             selected: NONE,
             wait: Wait::ZERO,
@@ -57,10 +60,13 @@ impl<R: SwitchRules> UnitUnder<R> {
             Event::Hit => self.hit(),
             Event::Write { address, value } => self.write(address, value),
         };
-        match outcome {
-            Ok(()) => 0,
-            Err(refusal) => refusal.number(),
-        }
+        number_of(outcome)
+    }
+
+    /// Takes one call: 0, or the number of the refusal that turned it down and
+    /// left the state as it was.
+    pub fn call(&mut self, call: &Call) -> u8 {
+        number_of(self.change_buckets(call))
     }
 
     /// Takes the fields of one event; 12 if they are no event.
@@ -82,8 +88,10 @@ impl<R: SwitchRules> UnitUnder<R> {
             return Err(Refusal::SampleOutOfRange);
         }
         let state_before = self.pll.state;
-        for (bit, input) in self.inputs.iter_mut().enumerate() {
-            input.watch_activity(mask & (1 << bit) != 0); // step 1
+        for number in 1..=8 {
+            let bucket = self.buckets.of(number);
+            let input = self.input_mut(number);
+            input.watch_activity(mask & (1 << (number - 1)) != 0, &bucket); // step 1
             input.count_soak(); // step 2
         }
         self.follow_lock(lock); // step 3
@@ -181,6 +189,17 @@ impl<R: SwitchRules> UnitUnder<R> {
             self.history.command(value);
         }
         self.settings = settings;
+        Ok(())
+    }
+
+    /// Document 02, #104: "Setting or assigning a set, even as it was, puts
+    /// each input it concerns at level S, alarm set, decay count 0."
+    fn change_buckets(&mut self, call: &Call) -> Result<(), Refusal> {
+        let (buckets, concerned) = self.buckets.called(call)?;
+        for input in concerned {
+            self.input_mut(input).start_bucket(&buckets.of(input));
+        }
+        self.buckets = buckets;
         Ok(())
     }
 

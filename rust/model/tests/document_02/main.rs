@@ -5,6 +5,7 @@
 #[allow(dead_code)]
 #[path = "../document_01/bench.rs"]
 mod bench;
+mod bucket_sets;
 mod kept_value;
 mod old_rules;
 mod rack_printout;
