@@ -1,4 +1,4 @@
-/* Document 01's cases A to J ("Marked trials") and a case of document 02's #102, driven by a host in C through the three functions of libhost.a. */
+/* Document 01's cases A to J ("Marked trials") and cases of document 02's #102 and #104, driven by a host in C through the functions of libhost.a. */
 #include "controller.h"
 
 #include <stdio.h>
@@ -200,6 +200,53 @@ static void kept_value(void)
     expect("#102 input 2 is lost: Holdover", state_byte(&u), 0x10);
 }
 
+/* A call's refusal, and that it left every byte as it was, padding too. */
+static void expect_refused(const char *what, const struct unit *u, const unsigned char *before, int got, int want)
+{
+    expect(what, got, want);
+    expect("#104 and leaves the unit as it was", memcmp(u, before, sizeof *u), 0);
+}
+
+static void refused_buckets(void)
+{
+    struct unit u = tracking(1);
+    unsigned char before[sizeof u];
+    memcpy(before, &u, sizeof u);
+    expect_refused("#104 set 4 gives 14", &u, before, unit_set_bucket(&u, 4, 8, 6, 4, 1), 14);
+    expect_refused("#104 set level above size gives 14", &u, before, unit_set_bucket(&u, 1, 8, 9, 4, 1), 14);
+    expect_refused("#104 clear level at set level gives 14", &u, before, unit_set_bucket(&u, 1, 8, 6, 6, 1), 14);
+    expect_refused("#104 decay 4 gives 14", &u, before, unit_set_bucket(&u, 1, 8, 6, 4, 4), 14);
+    expect_refused("#104 assigning set 4 gives 14", &u, before, unit_assign_bucket(&u, 8, 4), 14);
+    expect_refused("#104 input 0 gives 6", &u, before, unit_assign_bucket(&u, 0, 3), 6);
+    expect_refused("#104 input 9 gives 6, with set 4 too", &u, before, unit_assign_bucket(&u, 9, 4), 6);
+}
+
+/* Input 1 gets a set of its own: from level 20 to 5 in 15 times 8 clean ticks, of which the last is the first of the soak. */
+static void bucket_sets(void)
+{
+    struct unit u = tracking(1);
+    expect("#104 set 1 as 20, 10, 5, 3 is accepted", unit_set_bucket(&u, 1, 20, 10, 5, 3), 0);
+    expect("#104 no input has it: no alarm", activity_alarm(&u, 1), 0);
+    expect("#104 input 1 gets it", unit_assign_bucket(&u, 1, 1), 0);
+    expect("#104 and is at level 20", u.monitors.level[0], 20);
+    expect("#104 with the alarm set", activity_alarm(&u, 1), 1);
+    expect("#104 input 2 is left as it was", activity_alarm(&u, 2), 0);
+    clean_ticks(&u, 119);
+    expect("#104 119 clean ticks: alarm, not selected", activity_alarm(&u, 1) + selected(&u), 1);
+    clean_ticks(&u, 1);
+    expect("#104 the 120th: clear", activity_alarm(&u, 1), 0);
+    clean_ticks(&u, SOAK_TICKS - 2);
+    expect("#104 77 more: not selected", selected(&u), 0);
+    clean_ticks(&u, 1);
+    expect("#104 78 more: selected", selected(&u), 1);
+    ticks(&u, 9, 1, 1, 0);
+    expect("#104 nine irregular ticks: still selected", selected(&u), 1);
+    ticks(&u, 1, 1, 1, 0);
+    expect("#104 a tenth: alarm, not selected", 10 * activity_alarm(&u, 1) + selected(&u), 10);
+    expect("#104 set 1 once more, as it was", unit_set_bucket(&u, 1, 20, 10, 5, 3), 0);
+    expect("#104 puts input 1 at level 20 again", u.monitors.level[0], 20);
+}
+
 int main(void)
 {
     activity();
@@ -211,6 +258,8 @@ int main(void)
     expect("I delay 255: n = 119,532", reversion(255, 200000), 119532);
     equal_priority();
     kept_value();
-    printf("cases A to J and #102: %s\n", failures ? "FAILED" : "passed");
+    refused_buckets();
+    bucket_sets();
+    printf("cases A to J, #102 and #104: %s\n", failures ? "FAILED" : "passed");
     return failures != 0;
 }

@@ -1,10 +1,11 @@
 /* The reference controller of the eight-input timing unit, for a host in C. Three libraries, of which a program links those that it uses:
- *   libhost.a:  unit_fresh, unit_event, unit_read
+ *   libhost.a:  unit_fresh, unit_event, unit_read, unit_set_bucket, unit_assign_bucket
  *   librun.a:   sheet_check, sheet_run
  *   libprint.a: sheet_print
  *
- * The host owns a unit's state. It makes one with unit_fresh, lends it to unit_event for each event and to unit_read for each read, and writes it by
- * nothing else. A tick is 128 ms. Documents 01 and 02 say what each event does and what each register shows.
+ * The host owns a unit's state. It makes one with unit_fresh, lends it to unit_event for each event, to unit_set_bucket and unit_assign_bucket for other
+ * numbers of the activity buckets, and to unit_read for each read, and writes it by nothing else. A tick is 128 ms. Documents 01 and 02 say what each event
+ * and call does and what each register shows.
  *
  * The interface is the registers, by unit_read, and the records and pages of a run sheet. The fields of struct unit are for the eye: they may change from one version
  * to the next, and what is said of them here holds of a unit that is kept so.
@@ -32,6 +33,15 @@ struct unit_monitors {
     uint16_t frequency[8]; /* frequency alarm */
     uint16_t remainder[8]; /* lock alarm: ticks that remain */
     uint16_t soak[8];      /* good ticks, 79 at most */
+};
+
+/* The activity buckets' four sets, a row for each number: place n is set n. And the set that each input has: place i - 1 is input i. */
+struct unit_buckets {
+    uint16_t size[4];        /* the largest level */
+    uint16_t set_level[4];   /* the alarm is set at this level or more */
+    uint16_t clear_level[4]; /* it is cleared at this level or less */
+    uint16_t decay_ticks[4]; /* the level falls by 1 in so many clean ticks: 1, 2, 4 or 8 */
+    uint16_t assigned[8];    /* an input's set, 0 to 3 */
 };
 
 /* The history's open block and counts. */
@@ -75,6 +85,7 @@ struct unit_loop {
 /* The whole state. */
 struct unit {
     struct unit_monitors monitors;
+    struct unit_buckets buckets;
     struct unit_history history;
     struct unit_choice choice;
     uint32_t holding; /* ticks in Holdover after the event that entered it, 255 hours at most */
@@ -83,11 +94,12 @@ struct unit {
 };
 
 CONTROLLER_ASSERT(sizeof(struct unit_monitors) == 96, "size of unit_monitors");
+CONTROLLER_ASSERT(sizeof(struct unit_buckets) == 48, "size of unit_buckets");
 CONTROLLER_ASSERT(sizeof(struct unit_tally) == 16, "size of unit_tally");
 CONTROLLER_ASSERT(sizeof(struct unit_history) == 1552, "size of unit_history");
 CONTROLLER_ASSERT(sizeof(struct unit_choice) == 16, "size of unit_choice");
 CONTROLLER_ASSERT(sizeof(struct unit_loop) == 6, "size of unit_loop");
-CONTROLLER_ASSERT(sizeof(struct unit) == 1704, "size of unit");
+CONTROLLER_ASSERT(sizeof(struct unit) == 1752, "size of unit");
 CONTROLLER_ASSERT(CONTROLLER_ALIGN(struct unit) == 8, "alignment of unit");
 
 CONTROLLER_ASSERT(offsetof(struct unit_monitors, level) == 0, "offset of level");
@@ -96,6 +108,11 @@ CONTROLLER_ASSERT(offsetof(struct unit_monitors, active) == 32, "offset of activ
 CONTROLLER_ASSERT(offsetof(struct unit_monitors, frequency) == 48, "offset of frequency");
 CONTROLLER_ASSERT(offsetof(struct unit_monitors, remainder) == 64, "offset of remainder");
 CONTROLLER_ASSERT(offsetof(struct unit_monitors, soak) == 80, "offset of soak");
+CONTROLLER_ASSERT(offsetof(struct unit_buckets, size) == 0, "offset of size");
+CONTROLLER_ASSERT(offsetof(struct unit_buckets, set_level) == 8, "offset of set_level");
+CONTROLLER_ASSERT(offsetof(struct unit_buckets, clear_level) == 16, "offset of clear_level");
+CONTROLLER_ASSERT(offsetof(struct unit_buckets, decay_ticks) == 24, "offset of decay_ticks");
+CONTROLLER_ASSERT(offsetof(struct unit_buckets, assigned) == 32, "offset of assigned");
 CONTROLLER_ASSERT(offsetof(struct unit_tally, open) == 0, "offset of open");
 CONTROLLER_ASSERT(offsetof(struct unit_tally, filled) == 8, "offset of filled");
 CONTROLLER_ASSERT(offsetof(struct unit_tally, count) == 10, "offset of count");
@@ -115,11 +132,12 @@ CONTROLLER_ASSERT(offsetof(struct unit_loop, unlock) == 0, "offset of unlock");
 CONTROLLER_ASSERT(offsetof(struct unit_loop, mode) == 2, "offset of mode");
 CONTROLLER_ASSERT(offsetof(struct unit_loop, lock) == 4, "offset of lock");
 CONTROLLER_ASSERT(offsetof(struct unit, monitors) == 0, "offset of monitors");
-CONTROLLER_ASSERT(offsetof(struct unit, history) == 96, "offset of history");
-CONTROLLER_ASSERT(offsetof(struct unit, choice) == 1648, "offset of choice");
-CONTROLLER_ASSERT(offsetof(struct unit, holding) == 1664, "offset of holding");
-CONTROLLER_ASSERT(offsetof(struct unit, pll) == 1668, "offset of pll");
-CONTROLLER_ASSERT(offsetof(struct unit, regs) == 1674, "offset of regs");
+CONTROLLER_ASSERT(offsetof(struct unit, buckets) == 96, "offset of buckets");
+CONTROLLER_ASSERT(offsetof(struct unit, history) == 144, "offset of history");
+CONTROLLER_ASSERT(offsetof(struct unit, choice) == 1696, "offset of choice");
+CONTROLLER_ASSERT(offsetof(struct unit, holding) == 1712, "offset of holding");
+CONTROLLER_ASSERT(offsetof(struct unit, pll) == 1716, "offset of pll");
+CONTROLLER_ASSERT(offsetof(struct unit, regs) == 1722, "offset of regs");
 
 /* A fresh unit. */
 struct unit unit_fresh(void);
@@ -131,6 +149,24 @@ struct unit unit_fresh(void);
  *   kind 3, write:       a address, b value, word 0
  * Fields that are no event give 12. A refusal leaves every byte of the unit as it was, padding included. */
 uint8_t unit_event(struct unit *u, uint8_t kind, uint8_t a, uint8_t b, int32_t word);
+
+/* Sets one of the four bucket sets, which start as 8, 6, 4, 1: the refusal number, 14 or 0.
+ *   set:         0 to 3
+ *   size:        the largest level; an irregular tick adds 1 up to it
+ *   set_level:   the activity alarm is set at this level or more
+ *   clear_level: it is cleared at this level or less, and kept between the two
+ *   decay:       0 to 3; the level falls by 1 in 1, 2, 4 or 8 clean ticks
+ * Bounds: clear_level < set_level <= size. Numbers out of these bounds, or a set over 3, give 14.
+ * Each input that has the set now is put at level size, its alarm set and its decay count 0, also where the numbers are as they were. Its soak, and all else,
+ * is for the next tick to change. A refusal leaves every byte of the unit as it was, padding included. */
+uint8_t unit_set_bucket(struct unit *u, uint8_t set, uint8_t size, uint8_t set_level, uint8_t clear_level, uint8_t decay);
+
+/* Gives an input one of the four bucket sets; each starts with set 0: the refusal number, 6, 14 or 0.
+ *   input: 1 to 8, else 6
+ *   set:   0 to 3, else 14; 6 comes first where both are out of bounds
+ * The input is put at the set's size, as by unit_set_bucket, also where it had the set before. A refusal leaves every byte of the unit as it was, padding
+ * included. */
+uint8_t unit_assign_bucket(struct unit *u, uint8_t input, uint8_t set);
 
 /* A read of the lent unit: 256 times the refusal, plus the byte. */
 uint16_t unit_read(const struct unit *u, uint8_t address);

@@ -23,6 +23,17 @@ pub struct Monitors {
     pub soak: [u16; 8],
 }
 
+/// The numbers of the four bucket sets, and the set 0 to 3 that each input has.
+#[repr(C)]
+#[derive(Clone, Copy, Debug, PartialEq, Eq)]
+pub struct Buckets {
+    pub size: [u16; 4],
+    pub set_level: [u16; 4],
+    pub clear_level: [u16; 4],
+    pub decay_ticks: [u16; 4],
+    pub assigned: [u16; 8],
+}
+
 /// The history's open block and counts; `builds` is not 0 while a history
 /// builds.
 #[repr(C)]
@@ -73,6 +84,7 @@ pub struct Loop {
 #[derive(Clone, Copy, Debug, PartialEq, Eq)]
 pub struct Unit {
     pub monitors: Monitors,
+    pub buckets: Buckets,
     pub history: History,
     pub choice: Choice,
     pub holding: u32,
@@ -86,16 +98,26 @@ const fn laid_out<T>(size: usize, align: usize) -> bool {
 
 const _: () = {
     assert!(laid_out::<Monitors>(96, 2));
+    assert!(laid_out::<Buckets>(48, 2));
     assert!(laid_out::<Tally>(16, 8));
     assert!(laid_out::<History>(1552, 8));
     assert!(laid_out::<Choice>(16, 8));
     assert!(laid_out::<Loop>(6, 2));
-    assert!(laid_out::<Unit>(1704, 8));
+    assert!(laid_out::<Unit>(1752, 8));
 };
 
 extern "C" {
     fn unit_fresh() -> Unit;
     fn unit_event(unit: *mut Unit, kind: u8, a: u8, b: u8, word: i32) -> u8;
+    fn unit_set_bucket(
+        unit: *mut Unit,
+        set: u8,
+        size: u8,
+        set_level: u8,
+        clear_level: u8,
+        decay: u8,
+    ) -> u8;
+    fn unit_assign_bucket(unit: *mut Unit, input: u8, set: u8) -> u8;
     fn unit_read(unit: *const Unit, address: u8) -> u16;
 }
 
@@ -111,6 +133,33 @@ impl Unit {
         // SAFETY: the pointer is to a whole unit, lent for the call alone; the
         // function takes every value of the other arguments.
         unsafe { unit_event(self, kind, a, b, word) }
+    }
+
+    /// Sets a bucket set 0 to 3, and puts each input that has it at its size,
+    /// alarm set. The numbers are S, U, L and d of document 02's #104; 14 if
+    /// they are out of bounds or the set is over 3, 0 if accepted. A refusal
+    /// leaves every byte of the unit as it was, padding included.
+    pub fn set_bucket(
+        &mut self,
+        set: u8,
+        size: u8,
+        set_level: u8,
+        clear_level: u8,
+        decay: u8,
+    ) -> u8 {
+        // SAFETY: the pointer is to a whole unit, lent for the call alone; the
+        // function takes every value of the other arguments.
+        unsafe { unit_set_bucket(self, set, size, set_level, clear_level, decay) }
+    }
+
+    /// Gives an input 1 to 8 the bucket set 0 to 3, and puts it at the set's
+    /// size, alarm set. 6 if there is no such input, else 14 if there is no such
+    /// set, 0 if accepted. A refusal leaves every byte of the unit as it was,
+    /// padding included.
+    pub fn assign_bucket(&mut self, input: u8, set: u8) -> u8 {
+        // SAFETY: the pointer is to a whole unit, lent for the call alone; the
+        // function takes every value of the other arguments.
+        unsafe { unit_assign_bucket(self, input, set) }
     }
 
     /// The refusal's number and the byte.

@@ -1,5 +1,5 @@
 //! The numbers of the interface: the kinds of events, and the states and
-//! refusals as document 01 calls them.
+//! refusals as documents 01 and 02 call them.
 
 /// The kinds of events.
 pub const TICK: u8 = 0;
@@ -17,8 +17,9 @@ pub const STATES: [&str; 6] = [
     "Pre-locked 2",
 ];
 
-/// "Turned down", from 1 on; what 13 also means is document 02's, #101.
-const REASONS: [&str; 13] = [
+/// "Turned down", from 1 on; what 13 also means is document 02's, #101, and 14
+/// is of its #104.
+const REASONS: [&str; 14] = [
     "address not in the map",
     "write to a read-only register",
     "value above the register's largest",
@@ -32,10 +33,13 @@ const REASONS: [&str; 13] = [
     "bytes after the events",
     "kind over 3, lock over 1, or unused field not 0",
     "output under 4 bytes a record, or page output under 1,400 bytes a page",
+    "bucket set out of its bounds, or set number over 3",
 ];
 
 /// The reason of a refusal, by its number from 1.
 pub fn reason(number: u8) -> &'static str {
     let place = usize::from(number).wrapping_sub(1);
-    REASONS.get(place).unwrap_or(&"not a number of document 01")
+    REASONS
+        .get(place)
+        .unwrap_or(&"not a number of documents 01 and 02")
 }

@@ -11,7 +11,7 @@ fn offset<T>(unit: &Unit, part: &T) -> usize {
 #[test]
 fn the_fields_lie_where_the_interface_says() {
     let unit = Unit::fresh();
-    let (monitors, history) = (&unit.monitors, &unit.history);
+    let (monitors, buckets, history) = (&unit.monitors, &unit.buckets, &unit.history);
     let tally = &history.tally;
     let places = [
         ("level", offset(&unit, &monitors.level), 0),
@@ -20,25 +20,30 @@ fn the_fields_lie_where_the_interface_says() {
         ("frequency", offset(&unit, &monitors.frequency), 48),
         ("remainder", offset(&unit, &monitors.remainder), 64),
         ("soak", offset(&unit, &monitors.soak), 80),
-        ("open", offset(&unit, &tally.open), 96),
-        ("filled", offset(&unit, &tally.filled), 104),
-        ("count", offset(&unit, &tally.count), 106),
-        ("built", offset(&unit, &tally.built), 107),
-        ("backed", offset(&unit, &tally.backed), 108),
-        ("builds", offset(&unit, &tally.builds), 109),
-        ("last", offset(&unit, &tally.last), 110),
-        ("command", offset(&unit, &tally.command), 111),
-        ("sums", offset(&unit, &history.sums), 112),
-        ("building", offset(&unit, &history.building), 624),
-        ("backup", offset(&unit, &history.backup), 1136),
-        ("wait", offset(&unit, &unit.choice.wait), 1648),
-        ("selected", offset(&unit, &unit.choice.selected), 1656),
-        ("aim", offset(&unit, &unit.choice.aim), 1657),
-        ("holding", offset(&unit, &unit.holding), 1664),
-        ("unlock", offset(&unit, &unit.pll.unlock), 1668),
-        ("mode", offset(&unit, &unit.pll.mode), 1670),
-        ("lock", offset(&unit, &unit.pll.lock), 1672),
-        ("regs", offset(&unit, &unit.regs), 1674),
+        ("size", offset(&unit, &buckets.size), 96),
+        ("set_level", offset(&unit, &buckets.set_level), 104),
+        ("clear_level", offset(&unit, &buckets.clear_level), 112),
+        ("decay_ticks", offset(&unit, &buckets.decay_ticks), 120),
+        ("assigned", offset(&unit, &buckets.assigned), 128),
+        ("open", offset(&unit, &tally.open), 144),
+        ("filled", offset(&unit, &tally.filled), 152),
+        ("count", offset(&unit, &tally.count), 154),
+        ("built", offset(&unit, &tally.built), 155),
+        ("backed", offset(&unit, &tally.backed), 156),
+        ("builds", offset(&unit, &tally.builds), 157),
+        ("last", offset(&unit, &tally.last), 158),
+        ("command", offset(&unit, &tally.command), 159),
+        ("sums", offset(&unit, &history.sums), 160),
+        ("building", offset(&unit, &history.building), 672),
+        ("backup", offset(&unit, &history.backup), 1184),
+        ("wait", offset(&unit, &unit.choice.wait), 1696),
+        ("selected", offset(&unit, &unit.choice.selected), 1704),
+        ("aim", offset(&unit, &unit.choice.aim), 1705),
+        ("holding", offset(&unit, &unit.holding), 1712),
+        ("unlock", offset(&unit, &unit.pll.unlock), 1716),
+        ("mode", offset(&unit, &unit.pll.mode), 1718),
+        ("lock", offset(&unit, &unit.pll.lock), 1720),
+        ("regs", offset(&unit, &unit.regs), 1722),
     ];
     for (name, found, expected) in places {
         assert_eq!(found, expected, "{}", name);
@@ -57,4 +62,33 @@ fn the_library_answers() {
     assert_eq!(unit, before);
     assert_eq!(unit.event(3, 0x40, 1, 0), 0);
     assert_eq!(unit.read(0x40), (0, 1));
+}
+
+/// The sets of a fresh unit, the two calls and their refusals, through the
+/// library.
+#[test]
+fn the_library_takes_bucket_sets() {
+    let mut unit = Unit::fresh();
+    let buckets = &unit.buckets;
+    let numbers = (buckets.size, buckets.set_level, buckets.clear_level);
+    assert_eq!(numbers, ([8; 4], [6; 4], [4; 4]));
+    assert_eq!((buckets.decay_ticks, buckets.assigned), ([2; 4], [0; 8]));
+    assert_eq!(unit.set_bucket(3, 20, 10, 5, 3), 0);
+    let buckets = &unit.buckets;
+    let set = (
+        buckets.size[3],
+        buckets.set_level[3],
+        buckets.clear_level[3],
+    );
+    assert_eq!((set, buckets.decay_ticks[3]), ((20, 10, 5), 8));
+    assert_eq!(unit.assign_bucket(8, 3), 0);
+    assert_eq!(unit.buckets.assigned, [0, 0, 0, 0, 0, 0, 0, 3]);
+    let monitors = &unit.monitors;
+    let input = (monitors.level[7], monitors.active[7], monitors.decay[7]);
+    assert_eq!(input, (20, 1, 0));
+    let before = unit;
+    assert_eq!(unit.set_bucket(4, 20, 10, 5, 3), 14);
+    assert_eq!(unit.assign_bucket(9, 4), 6);
+    assert_eq!(unit.assign_bucket(8, 4), 14);
+    assert_eq!(unit, before);
 }

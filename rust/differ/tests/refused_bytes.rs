@@ -2,7 +2,7 @@
 //! included: the unit is held as bytes, and these are lent to the C function.
 #![cfg(feature = "controller")]
 
-use controller::{Choice, History, Loop, Monitors, Tally, Unit};
+use controller::{Buckets, Choice, History, Loop, Monitors, Tally, Unit};
 use differ::coverage::Coverage;
 use differ::device::Device;
 use differ::run::{names, run_lists};
@@ -16,7 +16,7 @@ const SIZE: usize = size_of::<Unit>();
 /// How many units of any bytes are tried.
 const ANY_UNITS: u32 = 20_000;
 /// The places of the bytes that are in no field.
-const PADDING: [usize; 9] = [1658, 1659, 1660, 1661, 1662, 1663, 1701, 1702, 1703];
+const PADDING: [usize; 9] = [1706, 1707, 1708, 1709, 1710, 1711, 1749, 1750, 1751];
 
 extern "C" {
     fn unit_event(unit: *mut u8, kind: u8, a: u8, b: u8, word: i32) -> u8;
@@ -88,6 +88,7 @@ fn the_padding_is_what_no_field_takes() {
 fn places_of_fields(unit: &Unit) -> Vec<Range<usize>> {
     let Unit {
         monitors,
+        buckets,
         history,
         choice,
         holding,
@@ -102,6 +103,13 @@ fn places_of_fields(unit: &Unit) -> Vec<Range<usize>> {
         remainder,
         soak,
     } = monitors;
+    let Buckets {
+        size,
+        set_level,
+        clear_level,
+        decay_ticks,
+        assigned,
+    } = buckets;
     let History {
         tally,
         sums,
@@ -125,8 +133,10 @@ fn places_of_fields(unit: &Unit) -> Vec<Range<usize>> {
     } = choice;
     let Loop { unlock, mode, lock } = pll;
     let mut places = Vec::new();
-    let rows = [level, decay, active, frequency, remainder, soak];
+    let rows = [level, decay, active, frequency, remainder, soak, assigned];
     places.extend(rows.map(|row| place(unit, row)));
+    let sets = [size, set_level, clear_level, decay_ticks];
+    places.extend(sets.map(|row| place(unit, row)));
     places.extend([sums, building, backup].map(|sums| place(unit, sums)));
     let numbers = [filled, unlock, mode, lock];
     places.extend(numbers.map(|number| place(unit, number)));
