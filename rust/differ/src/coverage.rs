@@ -1,20 +1,22 @@
 //! What the lists have reached: a table of items, each with the condition that
 //! counts an event for it.
 
+mod buckets;
 mod histories;
 
 use crate::report::never_reached;
 use model::{
-    wait_limit, Event, OldUnit, State, Unit, BLOCKS_KEPT, LOCK_ALARM_TICKS, SAMPLES_PER_BLOCK,
-    TICKS_PER_HOUR,
+    wait_limit, Call, Event, OldUnit, State, Unit, BLOCKS_KEPT, LOCK_ALARM_TICKS,
+    SAMPLES_PER_BLOCK, TICKS_PER_HOUR,
 };
 
-/// An event with the model's state before and after it, and what the old rules
-/// of the history made of it.
+/// An event or a call with the model's state before and after it, and what the
+/// old rules of the history made of it.
 pub struct Moment<'a> {
     pub before: &'a Unit,
-    /// None if the fields were no event.
+    /// None for a call, and if the fields were no event.
     pub event: Option<Event>,
+    pub call: Option<Call>,
     pub refusal: u8,
     pub after: &'a Unit,
     pub old: &'a OldUnit,
@@ -177,7 +179,7 @@ fn conditions() -> Vec<(String, Condition)> {
         |m, selected| m.after.selected == selected,
     ));
     list.extend(family(
-        (1..=8).chain([12]),
+        (1..=8).chain([12, 14]),
         |refusal| format!("events refused with {}", refusal),
         |m, refusal| m.refusal == refusal,
     ));
@@ -197,10 +199,12 @@ fn conditions() -> Vec<(String, Condition)> {
         |m, address| m.accepted_write(address),
     ));
     list.extend(histories::conditions());
+    list.extend(buckets::conditions());
     list.extend(family(
         SINGLE_CONDITIONS
             .iter()
             .chain(histories::CONDITIONS)
+            .chain(buckets::CONDITIONS)
             .copied(),
         |(name, _)| name.to_string(),
         |m, (_, condition)| condition(m),

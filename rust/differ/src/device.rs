@@ -1,8 +1,12 @@
-//! What is compared: anything that takes events and reads as the controller
-//! does.
+//! What is compared: anything that takes events and calls and reads as the
+//! controller does.
 
-/// `Clone` and `PartialEq` are there to see that a refused event leaves the
-/// whole state, field for field, as an earlier copy has it.
+use crate::fields::Fields;
+use crate::sent::Sent;
+use model::Call;
+
+/// `Clone` and `PartialEq` are there to see that a refusal leaves the whole
+/// state, field for field, as an earlier copy has it.
 pub trait Device: Clone + PartialEq {
     fn name(&self) -> &'static str;
 
@@ -12,8 +16,19 @@ pub trait Device: Clone + PartialEq {
     /// The refusal's number, 0 if accepted, 12 if the fields are no event.
     fn event(&mut self, kind: u8, a: u8, b: u8, word: i32) -> u8;
 
+    /// The refusal's number, 0 if accepted.
+    fn call(&mut self, call: Call) -> u8;
+
     /// The refusal's number and the byte.
     fn read(&self, address: u8) -> (u8, u8);
+
+    /// The refusal's number, 0 if accepted.
+    fn take(&mut self, sent: Sent) -> u8 {
+        match sent {
+            Sent::Fields(Fields { kind, a, b, word }) => self.event(kind, a, b, word),
+            Sent::Call(call) => self.call(call),
+        }
+    }
 }
 
 impl Device for model::Unit {
@@ -27,6 +42,10 @@ impl Device for model::Unit {
 
     fn event(&mut self, kind: u8, a: u8, b: u8, word: i32) -> u8 {
         self.event_fields(kind, a, b, word)
+    }
+
+    fn call(&mut self, call: Call) -> u8 {
+        model::Unit::call(self, &call)
     }
 
     fn read(&self, address: u8) -> (u8, u8) {
@@ -46,6 +65,19 @@ impl Device for controller::Unit {
 
     fn event(&mut self, kind: u8, a: u8, b: u8, word: i32) -> u8 {
         controller::Unit::event(self, kind, a, b, word)
+    }
+
+    fn call(&mut self, call: Call) -> u8 {
+        match call {
+            Call::SetBucket { set, numbers } => self.set_bucket(
+                set,
+                numbers.size,
+                numbers.set_level,
+                numbers.clear_level,
+                numbers.decay,
+            ),
+            Call::AssignBucket { input, set } => self.assign_bucket(input, set),
+        }
     }
 
     fn read(&self, address: u8) -> (u8, u8) {

@@ -1,7 +1,7 @@
 //! What is told about a difference: where it was found, and both answers, or
 //! what is not so of Ready.
 
-use crate::fields::Fields;
+use crate::sent::Sent;
 use std::fmt;
 
 /// How the device's answer differs from the model's.
@@ -16,7 +16,7 @@ pub enum Mismatch {
         model: (u8, u8),
         device: (u8, u8),
     },
-    /// A refused event changed the state of the one named.
+    /// A refused event or call changed the state of the one named.
     Changed {
         name: &'static str,
     },
@@ -43,7 +43,7 @@ impl fmt::Display for Mismatch {
                 address, model.0, model.1, device.0, device.1
             ),
             Mismatch::Changed { name } => {
-                write!(f, "the refused event changed the state of the {}", name)
+                write!(f, "what was refused changed the state of the {}", name)
             }
             Mismatch::LessReady => {
                 write!(f, "the device is not Ready; under the old rules it is")
@@ -76,17 +76,17 @@ impl Name {
 #[derive(Clone, Debug, PartialEq, Eq)]
 pub struct Difference {
     pub name: Name,
-    /// The event after which it showed, and its index from 0; none if the
-    /// fresh units already differ.
-    pub event: Option<(u64, Fields)>,
+    /// The event or call after which it showed, and its index from 0; none if
+    /// the fresh units already differ.
+    pub last: Option<(u64, Sent)>,
     pub mismatch: Mismatch,
 }
 
 impl fmt::Display for Difference {
     fn fmt(&self, f: &mut fmt::Formatter) -> fmt::Result {
         writeln!(f, "DIFFERENCE in the list of seed {}", self.name.seed)?;
-        match self.event {
-            Some((index, fields)) => writeln!(f, "  after event {}: {}", index, fields)?,
+        match self.last {
+            Some((index, sent)) => writeln!(f, "  after event {}: {}", index, sent)?,
             None => writeln!(f, "  before the first event")?,
         }
         write!(f, "  {}", self.mismatch)

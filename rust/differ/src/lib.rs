@@ -1,5 +1,5 @@
-//! The differential test: random lists of events sent to the model and to a
-//! device, their answers compared after each event.
+//! The differential test: random lists of events and calls sent to the model
+//! and to a device, their answers compared after each.
 
 #![forbid(unsafe_code)]
 
@@ -14,4 +14,5 @@ pub mod phases;
 pub mod report;
 pub mod run;
 pub mod scenarios;
+pub mod sent;
 pub mod shrink;

@@ -1,13 +1,13 @@
-//! One list of events on its way: sent to the pair event by event, the answers
-//! compared, what was reached noted.
+//! One list of events and calls on its way: sent to the pair one by one, the
+//! answers compared, what was reached noted.
 
 use crate::coverage::{Coverage, Moment};
 use crate::device::Device;
 use crate::difference::{Difference, Mismatch, Name};
 use crate::draw;
-use crate::fields::Fields;
 use crate::pair::Pair;
-use model::{Event, Unit, SAMPLE_LIMIT};
+use crate::sent::Sent;
+use model::{BucketSet, Call, Event, Unit, SAMPLE_LIMIT};
 use shared::random::Random;
 
 /// Nothing, or the difference that ends the list.
@@ -49,11 +49,11 @@ pub struct List<'a, D> {
     pub habits: Habits,
     pair: Pair<D>,
     name: Name,
-    /// The number of events sent, and the last of them.
+    /// How many events and calls were sent, and the last of them.
     sent: u64,
-    last: Option<Fields>,
+    last: Option<Sent>,
     coverage: &'a mut Coverage,
-    record: Option<Vec<Fields>>,
+    record: Option<Vec<Sent>>,
 }
 
 impl<'a, D: Device> List<'a, D> {
@@ -75,12 +75,12 @@ impl<'a, D: Device> List<'a, D> {
         }
     }
 
-    /// From now on keeps the fields sent.
+    /// From now on keeps what is sent.
     pub fn keep_record(&mut self) {
         self.record = Some(Vec::new());
     }
 
-    pub fn into_record(self) -> Vec<Fields> {
+    pub fn into_record(self) -> Vec<Sent> {
         self.record.unwrap_or_default()
     }
 
@@ -97,19 +97,20 @@ impl<'a, D: Device> List<'a, D> {
         self.sent
     }
 
-    /// Sends the fields to both, compares, notes what was reached.
-    pub fn send(&mut self, fields: Fields) -> Step {
+    /// Sends an event's fields or a call to both, compares, notes what was
+    /// reached.
+    pub fn send(&mut self, sent: impl Into<Sent>) -> Step {
+        let sent = sent.into();
         if let Some(record) = &mut self.record {
-            record.push(fields);
+            record.push(sent);
         }
         self.sent += 1;
-        self.last = Some(fields);
-        let refusal = self
-            .compare(fields)
-            .map_err(|found| self.difference(found))?;
+        self.last = Some(sent);
+        let refusal = self.compare(sent).map_err(|found| self.difference(found))?;
         self.coverage.note(&Moment {
             before: &self.pair.model_before,
-            event: fields.event(),
+            event: sent.event(),
+            call: sent.call(),
             refusal,
             after: &self.pair.model,
             old: &self.pair.old,
@@ -118,8 +119,8 @@ impl<'a, D: Device> List<'a, D> {
         Ok(())
     }
 
-    fn compare(&mut self, fields: Fields) -> Result<u8, Mismatch> {
-        let refusal = self.pair.event(fields)?;
+    fn compare(&mut self, sent: Sent) -> Result<u8, Mismatch> {
+        let refusal = self.pair.send(sent)?;
         for address in READ_EACH_TIME {
             self.pair.read(address)?;
         }
@@ -135,7 +136,7 @@ impl<'a, D: Device> List<'a, D> {
     fn difference(&self, mismatch: Mismatch) -> Box<Difference> {
         Box::new(Difference {
             name: self.name,
-            event: self.last.map(|fields| (self.sent - 1, fields)),
+            last: self.last.map(|sent| (self.sent - 1, sent)),
             mismatch,
         })
     }
@@ -175,7 +176,15 @@ impl<'a, D: Device> List<'a, D> {
     }
 
     pub fn event(&mut self, event: Event) -> Step {
-        self.send(event.into())
+        self.send(event)
+    }
+
+    pub fn set_bucket(&mut self, set: u8, numbers: BucketSet) -> Step {
+        self.send(Call::SetBucket { set, numbers })
+    }
+
+    pub fn assign_bucket(&mut self, input: u8, set: u8) -> Step {
+        self.send(Call::AssignBucket { input, set })
     }
 
     pub fn measure(&mut self, input: u8, offset: i8) -> Step {

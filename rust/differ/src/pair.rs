@@ -1,10 +1,11 @@
-//! The model and a device side by side, each event and each read given to
-//! both; beside them the unit under the old rules of the history, for what #102
-//! says of Ready.
+//! The model and a device side by side, each event, each call and each read
+//! given to both; beside them the unit under the old rules of the history, for
+//! what #102 says of Ready.
 
 use crate::device::Device;
 use crate::difference::Mismatch;
 use crate::fields::Fields;
+use crate::sent::Sent;
 use model::{Event, OldUnit, Unit};
 use std::ops::RangeInclusive;
 
@@ -43,14 +44,13 @@ impl<D: Device> Pair<D> {
         }
     }
 
-    /// Gives the event to both. They must answer alike, and if they refuse it
-    /// both must be as before. The common answer is returned.
-    pub fn event(&mut self, fields: Fields) -> Result<u8, Mismatch> {
-        let Fields { kind, a, b, word } = fields;
+    /// Gives the event or call to both. They must answer alike, and if they
+    /// refuse it both must be as before. The common answer is returned.
+    pub fn send(&mut self, sent: Sent) -> Result<u8, Mismatch> {
         self.model_before = self.model.clone();
         self.device_before = self.device.clone();
-        let model = self.model.event_fields(kind, a, b, word);
-        let device = self.device.event(kind, a, b, word);
+        let model = self.model.take(sent);
+        let device = self.device.take(sent);
         if model != device {
             return Err(Mismatch::Refusal { model, device });
         }
@@ -58,21 +58,24 @@ impl<D: Device> Pair<D> {
             unchanged("model", &self.model_before, &self.model)?;
             unchanged(self.device.name(), &self.device_before, &self.device)?;
         }
-        self.old_refusal = self.old.event_fields(kind, a, b, word);
-        self.compare_ready(fields)?;
+        self.old_refusal = match sent {
+            Sent::Fields(Fields { kind, a, b, word }) => self.old.event_fields(kind, a, b, word),
+            Sent::Call(call) => self.old.call(&call),
+        };
+        self.compare_ready(sent)?;
         Ok(model)
     }
 
     /// "Over the same list from fresh, Ready stands after each event after
     /// which it stood under the old rules, and once standing it ends only by
     /// command 3." The device's Ready is compared with that of the old rules.
-    fn compare_ready(&self, fields: Fields) -> Result<(), Mismatch> {
+    fn compare_ready(&self, sent: Sent) -> Result<(), Mismatch> {
         let stands = shows_ready(&self.device);
         if self.old.ready() && !stands {
             return Err(Mismatch::LessReady);
         }
         let ended = shows_ready(&self.device_before) && !stands;
-        if ended && fields.event() != Some(COMMAND_3) {
+        if ended && sent.event() != Some(COMMAND_3) {
             return Err(Mismatch::ReadyEnded);
         }
         Ok(())

@@ -1,5 +1,9 @@
 //! The phases of which the lists are made: each does one kind of thing to the
-//! unit, with random details.
+//! unit, with random details. Those with calls are in `buckets`.
+
+mod buckets;
+
+pub use buckets::{any_calls, bucket_levels, call_while_soaking, other_bucket_sets};
 
 use crate::device::Device;
 use crate::draw;

@@ -9,8 +9,25 @@ type Phase<'a, D> = fn(&mut List<'a, D>) -> Step;
 
 /// The phases with their weights. Each begins in whatever state the one before
 /// it has left.
-fn phases<'a, D: Device>() -> [(u32, Phase<'a, D>); 21] {
+fn phases<'a, D: Device>() -> Vec<(u32, Phase<'a, D>)> {
+    let mut phases = event_phases();
+    phases.extend(call_phases());
+    phases
+}
+
+/// Those with calls.
+fn call_phases<'a, D: Device>() -> [(u32, Phase<'a, D>); 4] {
     [
+        (3, any_calls),
+        (4, other_bucket_sets),
+        (5, bucket_levels),
+        (3, call_while_soaking),
+    ]
+}
+
+/// Those with events alone, as a sheet can hold them.
+fn event_phases<'a, D: Device>() -> Vec<(u32, Phase<'a, D>)> {
+    vec![
         (10, lock_a_reference),
         (6, any_bytes),
         (6, any_events),
@@ -105,10 +122,19 @@ pub fn long_list<D: Device>(list: &mut List<D>) -> Step {
     list.read_all()
 }
 
-/// Phases until this many events are sent.
-pub fn mix_phases<D: Device>(list: &mut List<D>, length: u64) -> Step {
+/// Phases until this many events and calls are sent.
+fn mix_phases<D: Device>(list: &mut List<D>, length: u64) -> Step {
+    mix(list, &phases(), length)
+}
+
+/// Phases with events alone, until this many are sent.
+pub fn mix_events<D: Device>(list: &mut List<D>, length: u64) -> Step {
+    mix(list, &event_phases(), length)
+}
+
+fn mix<'a, D: Device>(list: &mut List<'a, D>, phases: &[(u32, Phase<'a, D>)], length: u64) -> Step {
     while list.sent() < length {
-        let phase = list.random.weighted(&phases());
+        let phase = list.random.weighted(phases);
         phase(list)?;
     }
     Ok(())

@@ -1,13 +1,13 @@
-//! A shorter list with a difference: the events of a list are left out, or
-//! made plainer, as long as the difference stays.
+//! A shorter list with a difference: the events and calls of a list are left
+//! out, or made plainer, as long as the difference stays.
 
 use crate::coverage::Coverage;
 use crate::device::Device;
 use crate::difference::{Mismatch, Name};
-use crate::fields::Fields;
 use crate::list::List;
 use crate::pair::Pair;
 use crate::run;
+use crate::sent::Sent;
 use model::Unit;
 use shared::leave_out::{leave_out, Budget};
 use shared::runs::{runs, Run};
@@ -17,7 +17,7 @@ const EVENTS_AT_MOST: usize = 60_000_000;
 
 pub struct Shrink<'a, D> {
     make: &'a D,
-    pub events: Vec<Fields>,
+    pub events: Vec<Sent>,
     pub mismatch: Mismatch,
     budget: Budget,
 }
@@ -54,21 +54,34 @@ impl<D: Device> Shrink<'_, D> {
         );
     }
 
-    /// Tries 0 in the fields of each event.
+    /// Tries each event and call with one of its parts plainer, then those
+    /// that are left with another.
     fn make_plainer(&mut self) {
-        let zeroes: [fn(&mut Fields); 3] = [|f| f.a = 0, |f| f.b = 0, |f| f.word = 0];
-        for zero in zeroes {
+        for part in 0.. {
             let mut index = 0;
+            let mut parts = 0;
             while index < self.events.len() {
-                let mut plainer = self.events.clone();
-                zero(&mut plainer[index]);
-                if plainer != self.events && self.budget.spend(plainer.len()) {
-                    if let Some(found) = cut_to_difference(self.make, &mut plainer) {
-                        self.events = plainer;
-                        self.mismatch = found;
-                    }
+                let choices = self.events[index].plainer();
+                parts = parts.max(choices.len());
+                if let Some(&plainer) = choices.get(part) {
+                    self.replace(index, plainer);
                 }
                 index += 1;
+            }
+            if part + 1 >= parts {
+                break;
+            }
+        }
+    }
+
+    /// Puts another in the place of one, if the difference stays.
+    fn replace(&mut self, index: usize, other: Sent) {
+        let mut events = self.events.clone();
+        events[index] = other;
+        if events != self.events && self.budget.spend(events.len()) {
+            if let Some(found) = cut_to_difference(self.make, &mut events) {
+                self.events = events;
+                self.mismatch = found;
             }
         }
     }
@@ -82,7 +95,7 @@ impl<D: Device> Shrink<'_, D> {
 }
 
 /// The events of a list; they do not depend on the device.
-fn record(name: Name) -> Vec<Fields> {
+fn record(name: Name) -> Vec<Sent> {
     let mut coverage = Coverage::empty();
     let make = Unit::fresh();
     let mut list = List::fresh(&make, name, &mut coverage);
@@ -93,10 +106,10 @@ fn record(name: Name) -> Vec<Fields> {
 
 /// The difference that the events show, if one; what is sent after it is cut
 /// off.
-fn cut_to_difference<D: Device>(make: &D, events: &mut Vec<Fields>) -> Option<Mismatch> {
+fn cut_to_difference<D: Device>(make: &D, events: &mut Vec<Sent>) -> Option<Mismatch> {
     let mut pair = Pair::fresh(make);
-    for (index, &fields) in events.iter().enumerate() {
-        let outcome = pair.event(fields).and_then(|_| pair.read_map());
+    for (index, &sent) in events.iter().enumerate() {
+        let outcome = pair.send(sent).and_then(|_| pair.read_map());
         if let Err(mismatch) = outcome {
             events.truncate(index + 1);
             return Some(mismatch);

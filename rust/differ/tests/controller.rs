@@ -5,7 +5,7 @@
 use differ::coverage::Coverage;
 use differ::device::Device;
 use differ::run::{names, run_lists};
-use model::Blocks;
+use model::{Blocks, BucketSet, Call};
 
 const SEED: u64 = 2;
 
@@ -20,8 +20,8 @@ fn the_controller_answers_as_the_model() {
     assert_eq!(find_difference(&controller::Unit::fresh(), 300), Ok(()));
 }
 
-/// The controller with a model beside it. An event after which their fields
-/// do not agree is answered by a refusal that there is not.
+/// The controller with a model beside it. An event or call after which their
+/// fields do not agree is answered by a refusal that there is not.
 #[derive(Clone, PartialEq)]
 struct Inspected {
     controller: controller::Unit,
@@ -38,8 +38,17 @@ impl Inspected {
         }
     }
 
-    fn fields_agree(&self) -> bool {
-        self.inputs_agree() && self.history_agrees() && self.selection_agrees()
+    /// The refusal, if the fields agree.
+    fn answer(&self, refusal: u8) -> u8 {
+        let fields_agree = self.inputs_agree()
+            && self.buckets_agree()
+            && self.history_agrees()
+            && self.selection_agrees();
+        if fields_agree {
+            refusal
+        } else {
+            FIELDS_DISAGREE
+        }
     }
 
     fn inputs_agree(&self) -> bool {
@@ -52,6 +61,16 @@ impl Inspected {
                 && monitors.remainder[i] == input.remainder
                 && monitors.soak[i] == u16::from(input.soak)
         })
+    }
+
+    fn buckets_agree(&self) -> bool {
+        let (stored, buckets) = (&self.controller.buckets, &self.model.buckets);
+        let row = |number: fn(&BucketSet) -> u8| buckets.sets.map(|set| u16::from(number(&set)));
+        stored.size == row(|set| set.size)
+            && stored.set_level == row(|set| set.set_level)
+            && stored.clear_level == row(|set| set.clear_level)
+            && stored.decay_ticks == row(BucketSet::decay_ticks)
+            && stored.assigned == buckets.assigned.map(u16::from)
     }
 
     fn history_agrees(&self) -> bool {
@@ -100,11 +119,13 @@ impl Device for Inspected {
     fn event(&mut self, kind: u8, a: u8, b: u8, word: i32) -> u8 {
         let refusal = self.controller.event(kind, a, b, word);
         self.model.event_fields(kind, a, b, word);
-        if self.fields_agree() {
-            refusal
-        } else {
-            FIELDS_DISAGREE
-        }
+        self.answer(refusal)
+    }
+
+    fn call(&mut self, call: Call) -> u8 {
+        let refusal = Device::call(&mut self.controller, call);
+        self.model.call(&call);
+        self.answer(refusal)
     }
 
     fn read(&self, address: u8) -> (u8, u8) {

@@ -1,11 +1,15 @@
-//! A refused event leaves every byte of the unit's memory as it was, padding
-//! included: the unit is held as bytes, and these are lent to the C function.
+//! A refused event or call leaves every byte of the unit's memory as it was,
+//! padding included: the unit is held as bytes, and these are lent to the C
+//! functions.
 #![cfg(feature = "controller")]
 
 use controller::{Buckets, Choice, History, Loop, Monitors, Tally, Unit};
 use differ::coverage::Coverage;
 use differ::device::Device;
+use differ::fields::Fields;
 use differ::run::{names, run_lists};
+use differ::sent::Sent;
+use model::{BucketSet, Call};
 use shared::random::Random;
 use std::collections::BTreeSet;
 use std::mem::size_of;
@@ -20,6 +24,15 @@ const PADDING: [usize; 9] = [1706, 1707, 1708, 1709, 1710, 1711, 1749, 1750, 175
 
 extern "C" {
     fn unit_event(unit: *mut u8, kind: u8, a: u8, b: u8, word: i32) -> u8;
+    fn unit_set_bucket(
+        unit: *mut u8,
+        set: u8,
+        size: u8,
+        set_level: u8,
+        clear_level: u8,
+        decay: u8,
+    ) -> u8;
+    fn unit_assign_bucket(unit: *mut u8, input: u8, set: u8) -> u8;
 }
 
 /// A unit as the bytes that it takes, aligned as it must be.
@@ -27,7 +40,7 @@ extern "C" {
 #[repr(C, align(8))]
 struct Held {
     bytes: [u8; SIZE],
-    /// What the padding is filled with; another number for each event.
+    /// What the padding is filled with; another number each time.
     pattern: u8,
 }
 
@@ -66,12 +79,25 @@ impl Held {
     }
 
     /// The refusal's number, and whether all bytes are as before.
-    fn send(&mut self, kind: u8, a: u8, b: u8, word: i32) -> (u8, bool) {
+    fn send(&mut self, sent: Sent) -> (u8, bool) {
         self.fill_padding();
         let before = self.bytes;
+        let unit = self.bytes.as_mut_ptr();
         // SAFETY: the pointer is to the bytes of a unit, lent for the call
-        // alone; the function takes every value of the other arguments.
-        let refusal = unsafe { unit_event(self.bytes.as_mut_ptr(), kind, a, b, word) };
+        // alone; the functions take every value of the other arguments.
+        let refusal = unsafe {
+            match sent {
+                Sent::Fields(Fields { kind, a, b, word }) => unit_event(unit, kind, a, b, word),
+                Sent::Call(Call::SetBucket { set, numbers }) => {
+                    let (size, decay) = (numbers.size, numbers.decay);
+                    let (set_level, clear_level) = (numbers.set_level, numbers.clear_level);
+                    unit_set_bucket(unit, set, size, set_level, clear_level, decay)
+                }
+                Sent::Call(Call::AssignBucket { input, set }) => {
+                    unit_assign_bucket(unit, input, set)
+                }
+            }
+        };
         (refusal, self.bytes == before)
     }
 }
@@ -153,37 +179,64 @@ fn place<T>(unit: &Unit, field: &T) -> Range<usize> {
     start..start + size_of::<T>()
 }
 
-/// Events that a fresh unit refuses, with the number.
-const REFUSED: [(u8, (u8, u8, u8, i32)); 16] = [
-    (1, (3, 0x00, 1, 0)),
-    (1, (3, 0x4f, 0, 0)),
-    (2, (3, 0x48, 0, 0)),
-    (3, (3, 0x40, 2, 0)),
-    (4, (3, 0x44, 30, 0)),
-    (4, (3, 0x45, 26, 0)),
-    (5, (2, 0, 0, 0)),
-    (6, (1, 0, 0, 0)),
-    (6, (1, 9, 1, 0)),
-    (7, (0, 0xff, 1, 125_000_001)),
-    (7, (0, 0, 0, -125_000_001)),
-    (8, (3, 0x26, 1, 0)),
-    (8, (3, 0x26, 2, 0)),
-    (12, (4, 0, 0, 0)),
-    (12, (0, 0, 2, 0)),
-    (12, (3, 0x40, 1, 1)),
+const fn event(kind: u8, a: u8, b: u8, word: i32) -> Sent {
+    Sent::Fields(Fields { kind, a, b, word })
+}
+
+const fn set(set: u8, size: u8, set_level: u8, clear_level: u8, decay: u8) -> Sent {
+    let numbers = BucketSet {
+        size,
+        set_level,
+        clear_level,
+        decay,
+    };
+    Sent::Call(Call::SetBucket { set, numbers })
+}
+
+const fn assign(input: u8, set: u8) -> Sent {
+    Sent::Call(Call::AssignBucket { input, set })
+}
+
+/// Events and calls that a fresh unit refuses, with the number.
+const REFUSED: [(u8, Sent); 25] = [
+    (1, event(3, 0x00, 1, 0)),
+    (1, event(3, 0x4f, 0, 0)),
+    (2, event(3, 0x48, 0, 0)),
+    (3, event(3, 0x40, 2, 0)),
+    (4, event(3, 0x44, 30, 0)),
+    (4, event(3, 0x45, 26, 0)),
+    (5, event(2, 0, 0, 0)),
+    (6, event(1, 0, 0, 0)),
+    (6, event(1, 9, 1, 0)),
+    (7, event(0, 0xff, 1, 125_000_001)),
+    (7, event(0, 0, 0, -125_000_001)),
+    (8, event(3, 0x26, 1, 0)),
+    (8, event(3, 0x26, 2, 0)),
+    (12, event(4, 0, 0, 0)),
+    (12, event(0, 0, 2, 0)),
+    (12, event(3, 0x40, 1, 1)),
+    (14, set(4, 8, 6, 4, 1)),
+    (14, set(0, 8, 9, 4, 1)),
+    (14, set(3, 8, 6, 6, 1)),
+    (14, set(1, 8, 6, 7, 1)),
+    (14, set(2, 8, 6, 4, 4)),
+    (14, assign(8, 4)),
+    (6, assign(0, 0)),
+    (6, assign(9, 3)),
+    (6, assign(9, 4)),
 ];
 
 #[test]
 fn each_refusal_leaves_the_bytes_of_a_fresh_unit() {
     let mut held = Held::fresh_unit();
-    for (number, (kind, a, b, word)) in REFUSED {
-        assert_eq!(held.send(kind, a, b, word), (number, true));
+    for (number, sent) in REFUSED {
+        assert_eq!(held.send(sent), (number, true));
     }
 }
 
-/// The numbers of the refusals of events.
+/// The numbers of the refusals of events and calls.
 fn numbers() -> impl Iterator<Item = u8> {
-    (1..=8).chain([12])
+    (1..=8).chain([12, 14])
 }
 
 #[test]
@@ -192,8 +245,8 @@ fn each_refusal_leaves_the_bytes_of_any_unit() {
     let mut refused = BTreeSet::new();
     for _ in 0..ANY_UNITS {
         let mut held = Held::any_unit(&mut random);
-        let (_, (kind, a, b, word)) = random.pick(&REFUSED);
-        let (number, unchanged) = held.send(kind, a, b, word);
+        let (_, sent) = random.pick(&REFUSED);
+        let (number, unchanged) = held.send(sent);
         assert!(number == 0 || unchanged, "{} changes a byte", number);
         refused.insert(number);
     }
@@ -214,7 +267,15 @@ impl Device for Held {
     }
 
     fn event(&mut self, kind: u8, a: u8, b: u8, word: i32) -> u8 {
-        match self.send(kind, a, b, word) {
+        self.take(event(kind, a, b, word))
+    }
+
+    fn call(&mut self, call: Call) -> u8 {
+        self.take(call.into())
+    }
+
+    fn take(&mut self, sent: Sent) -> u8 {
+        match self.send(sent) {
             (refusal, false) if refusal != 0 => BYTES_CHANGED,
             (refusal, _) => refusal,
         }
@@ -225,7 +286,7 @@ impl Device for Held {
     }
 }
 
-/// The padding differs from event to event: here the fields alone count.
+/// The padding differs from one time to the next: here the fields alone count.
 impl PartialEq for Held {
     fn eq(&self, other: &Held) -> bool {
         self.unit() == other.unit()

@@ -5,7 +5,7 @@
 //! model, and of models that are wrong for one delay.
 
 use differ::device::Device;
-use model::{wait_limit, Event, Unit, SOAK_TICKS};
+use model::{wait_limit, Call, Event, Unit, SOAK_TICKS};
 
 /// More ticks than the longest wait takes.
 const MOST_TICKS: u32 = 120_000;
@@ -143,6 +143,10 @@ impl Device for Wrong {
             self.counted = true;
         }
         unit.event_fields(kind, a, b, word)
+    }
+
+    fn call(&mut self, call: Call) -> u8 {
+        self.unit.call(&call)
     }
 
     fn read(&self, address: u8) -> (u8, u8) {

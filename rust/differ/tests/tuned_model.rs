@@ -1,15 +1,15 @@
-//! The tuned model against the plain one: after each event of random lists the
-//! whole state is the same.
+//! The tuned model against the plain one: after each event and call of random
+//! lists the whole state is the same.
 
 use differ::coverage::Coverage;
 use differ::device::Device;
 use differ::run::{names, run_lists};
-use model::{fast, Blocks, Event, History, Input, OpenBlock, Unit};
+use model::{fast, Blocks, Call, Event, History, Input, OpenBlock, Unit};
 
 const SEED: u64 = 3;
 
-/// The tuned model with a plain one beside it. An event after which they do
-/// not agree is answered by a refusal that there is not.
+/// The tuned model with a plain one beside it. An event or call after which
+/// they do not agree is answered by a refusal that there is not.
 #[derive(Clone, PartialEq)]
 struct Beside {
     tuned: fast::Unit,
@@ -26,10 +26,15 @@ impl Beside {
         }
     }
 
-    fn agree(&self, refusal: u8) -> bool {
+    /// The refusal, if the states agree.
+    fn answer(&self, refusal: u8) -> u8 {
         let bytes = [0x48, 0x46, 0x49].map(|address| self.plain.read(address).1);
         let record = [refusal, bytes[0], bytes[1], bytes[2]];
-        as_plain(&self.tuned) == self.plain && self.tuned.record(refusal) == record
+        if as_plain(&self.tuned) == self.plain && self.tuned.record(refusal) == record {
+            refusal
+        } else {
+            STATES_DISAGREE
+        }
     }
 }
 
@@ -82,11 +87,13 @@ impl Device for Beside {
         };
         self.plain.event(&event);
         let refusal = self.tuned.event(&event);
-        if self.agree(refusal) {
-            refusal
-        } else {
-            STATES_DISAGREE
-        }
+        self.answer(refusal)
+    }
+
+    fn call(&mut self, call: Call) -> u8 {
+        self.plain.call(&call);
+        let refusal = self.tuned.call(&call);
+        self.answer(refusal)
     }
 
     fn read(&self, address: u8) -> (u8, u8) {

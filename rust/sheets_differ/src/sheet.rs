@@ -5,7 +5,7 @@ use differ::difference::Name;
 use differ::draw;
 use differ::list::{List, Step};
 use differ::phases::{become_ready, other_habits};
-use differ::scenarios::mix_phases;
+use differ::scenarios::mix_events;
 use model::{
     sheet_of, Event, Unit, BYTES_PER_COUNT, BYTES_PER_EVENT, BYTES_PER_SETTING, LONGEST_SHEET,
 };
@@ -119,7 +119,8 @@ fn most_events(settings: u32) -> u32 {
 
 /// The events of a list of the differ, as many as the sheet is to have. The
 /// list begins with writes, which become the settings. Fields that are no
-/// event, and so leave the unit, are left out.
+/// event, and the calls among the strays, which are all refused, leave the unit
+/// and are left out.
 fn sheet_of_size(random: &mut Random, size: &Size) -> Sheet {
     let mut coverage = Coverage::empty();
     let make = Unit::fresh();
@@ -131,7 +132,7 @@ fn sheet_of_size(random: &mut Random, size: &Size) -> Sheet {
     list.keep_record();
     play(&mut list, size).expect("the model does not differ from itself");
     let record = list.into_record();
-    let mut events = record.iter().filter_map(|fields| fields.event());
+    let mut events = record.iter().filter_map(|sent| sent.event());
     let settings = events.by_ref().take(size.settings as usize);
     let settings = settings.map(|event| match event {
         Event::Write { address, value } => (address, value),
@@ -155,5 +156,5 @@ fn play(list: &mut List<Unit>, size: &Size) -> Step {
     }
     // A few more, since not all that is sent is an event.
     let length = u64::from(size.settings + size.events + size.events / 4);
-    mix_phases(list, length + 100)
+    mix_events(list, length + 100)
 }

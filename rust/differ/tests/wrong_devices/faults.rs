@@ -1,12 +1,14 @@
-//! The faults: each alters the answer to an event or to a read, or the state
-//! that an event leaves. Those of the history are in `histories`.
+//! The faults: each alters the answer to an event, to a call or to a read, or
+//! the state that is left. Those of the history are in `histories`, those of the
+//! bucket sets in `buckets`.
 
 use differ::fields::Fields;
-use model::{wait_limit, Event, State, Unit, Wait};
+use model::{wait_limit, Call, Event, State, Unit, Wait};
 
 pub struct Fault {
     pub name: &'static str,
     pub event: fn(&mut Unit, Fields) -> u8,
+    pub call: fn(&mut Unit, Call) -> u8,
     pub read: fn(&Unit, u8) -> (u8, u8),
     pub needs_long_list: bool,
 }
@@ -14,12 +16,17 @@ pub struct Fault {
 pub const NO_FAULT: Fault = Fault {
     name: "none",
     event: right_event,
+    call: right_call,
     read: right_read,
     needs_long_list: false,
 };
 
 pub fn right_event(unit: &mut Unit, fields: Fields) -> u8 {
     unit.event_fields(fields.kind, fields.a, fields.b, fields.word)
+}
+
+pub fn right_call(unit: &mut Unit, call: Call) -> u8 {
+    unit.call(&call)
 }
 
 fn right_read(unit: &Unit, address: u8) -> (u8, u8) {
@@ -30,6 +37,14 @@ pub const fn in_event(name: &'static str, event: fn(&mut Unit, Fields) -> u8) ->
     Fault {
         name,
         event,
+        ..NO_FAULT
+    }
+}
+
+pub const fn in_call(name: &'static str, call: fn(&mut Unit, Call) -> u8) -> Fault {
+    Fault {
+        name,
+        call,
         ..NO_FAULT
     }
 }
@@ -62,6 +77,16 @@ pub fn then(unit: &mut Unit, fields: Fields, alter: impl Fn(&Unit, &mut Unit)) -
     refusal
 }
 
+/// As `then`, for a call.
+pub fn then_after_call(unit: &mut Unit, call: Call, alter: impl Fn(&Unit, &mut Unit)) -> u8 {
+    let before = unit.clone();
+    let refusal = right_call(unit, call);
+    if refusal == 0 {
+        alter(&before, unit);
+    }
+    refusal
+}
+
 /// As `then`, for ticks alone.
 pub fn then_after_tick(unit: &mut Unit, fields: Fields, alter: impl Fn(&Unit, &mut Unit)) -> u8 {
     then(unit, fields, |before, after| {
@@ -84,7 +109,7 @@ pub fn tick_with(unit: &mut Unit, fields: Fields, alter: impl Fn(&mut Unit)) -> 
     refusal
 }
 
-fn is_tick(fields: Fields) -> bool {
+pub fn is_tick(fields: Fields) -> bool {
     matches!(fields.event(), Some(Event::Tick { .. }))
 }
 

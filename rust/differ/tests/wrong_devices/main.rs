@@ -1,6 +1,7 @@
 //! Deliberately wrong devices: the differ must find a difference in each. They
 //! are the model with one rule altered from outside.
 
+mod buckets;
 mod faults;
 mod histories;
 
@@ -11,7 +12,7 @@ use differ::fields::Fields;
 use differ::run::{names, run_lists};
 use differ::shrink::Shrink;
 use faults::Fault;
-use model::Unit;
+use model::{Call, Unit};
 
 /// The model with a fault.
 #[derive(Clone)]
@@ -48,13 +49,20 @@ impl Device for Wrong {
         (self.fault.event)(&mut self.unit, Fields { kind, a, b, word })
     }
 
+    fn call(&mut self, call: Call) -> u8 {
+        (self.fault.call)(&mut self.unit, call)
+    }
+
     fn read(&self, address: u8) -> (u8, u8) {
         (self.fault.read)(&self.unit, address)
     }
 }
 
 fn all_faults() -> impl Iterator<Item = &'static Fault> {
-    faults::FAULTS.iter().chain(histories::FAULTS)
+    faults::FAULTS
+        .iter()
+        .chain(histories::FAULTS)
+        .chain(buckets::FAULTS)
 }
 
 fn fault(name: &str) -> &'static Fault {
