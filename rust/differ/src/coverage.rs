@@ -103,6 +103,9 @@ type SingleCondition = fn(&Moment) -> bool;
 struct Item {
     name: String,
     condition: Condition,
+    /// Whether it is of #104, and need not be asked where no bucket set plays a
+    /// part: that saves a quarter of the time.
+    of_buckets: bool,
     count: u64,
 }
 
@@ -115,13 +118,18 @@ pub struct Coverage {
 
 impl Coverage {
     pub fn empty() -> Coverage {
-        let item = |(name, condition)| Item {
-            name,
-            condition,
-            count: 0,
+        let items = |of_buckets| {
+            move |(name, condition)| Item {
+                name,
+                condition,
+                of_buckets,
+                count: 0,
+            }
         };
+        let others = conditions().into_iter().map(items(false));
+        let buckets = buckets::conditions().into_iter().map(items(true));
         Coverage {
-            items: conditions().into_iter().map(item).collect(),
+            items: others.chain(buckets).collect(),
             lists: 0,
             events: 0,
             reads: [0; 256],
@@ -129,8 +137,9 @@ impl Coverage {
     }
 
     pub fn note(&mut self, moment: &Moment) {
+        let buckets = moment.concerns_buckets();
         for item in &mut self.items {
-            if (item.condition)(moment) {
+            if (buckets || !item.of_buckets) && (item.condition)(moment) {
                 item.count += 1;
             }
         }
@@ -164,7 +173,7 @@ impl Coverage {
     }
 }
 
-/// The items, each with its condition.
+/// The items but those of the bucket sets, each with its condition.
 fn conditions() -> Vec<(String, Condition)> {
     let writable = (0x1c..=0x26).chain(0x40..=0x45);
     let mut list = Vec::new();
@@ -199,17 +208,18 @@ fn conditions() -> Vec<(String, Condition)> {
         |m, address| m.accepted_write(address),
     ));
     list.extend(histories::conditions());
-    list.extend(buckets::conditions());
-    list.extend(family(
-        SINGLE_CONDITIONS
-            .iter()
-            .chain(histories::CONDITIONS)
-            .chain(buckets::CONDITIONS)
-            .copied(),
+    list.extend(singles(SINGLE_CONDITIONS));
+    list.extend(singles(histories::CONDITIONS));
+    list
+}
+
+/// Items that are not one of a family.
+fn singles(conditions: &'static [(&'static str, SingleCondition)]) -> Vec<(String, Condition)> {
+    family(
+        conditions.iter().copied(),
         |(name, _)| name.to_string(),
         |m, (_, condition)| condition(m),
-    ));
-    list
+    )
 }
 
 /// Like items: one for each member, with its name and condition.

@@ -32,7 +32,7 @@ impl BucketSet {
 
     /// "decay of 2^d ticks"
     pub fn decay_ticks(&self) -> u8 {
-        2_u8.pow(self.decay.into())
+        1 << self.decay
     }
 }
 

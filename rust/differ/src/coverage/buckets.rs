@@ -1,10 +1,19 @@
 //! The items of #104: the two calls at and beyond each bound, what they do to
 //! the inputs, and ticks under the numbers of other sets than the fresh one.
 
-use super::{family, Condition, Moment, SingleCondition};
+use super::{family, singles, Condition, Moment, SingleCondition};
 use model::{BucketSet, Buckets, Call, Input};
 
 impl Moment<'_> {
+    /// A call, the tick after it, or any event under other sets than the fresh
+    /// ones.
+    pub fn concerns_buckets(&self) -> bool {
+        let inputs = &self.before.inputs;
+        self.call.is_some()
+            || self.before.buckets != Buckets::fresh()
+            || inputs.iter().any(alarm_beside_soak)
+    }
+
     /// The set and numbers of a setting with this answer.
     fn setting(&self, refusal: u8) -> Option<(u8, BucketSet)> {
         match self.call {
@@ -54,16 +63,14 @@ impl Moment<'_> {
             let (before, after) = (self.before.input(input), self.after.input(input));
             set != BucketSet::FRESH && holds(&set, before, after)
         };
-        self.accepted_tick() && self.after.buckets != Buckets::fresh() && (1..=8).any(holds_of)
+        self.accepted_tick() && (1..=8).any(holds_of)
     }
 
     /// The first tick after a call, and some input that the call concerned and
-    /// that had begun to soak. Only a call leaves an alarm beside a soak.
+    /// that had begun to soak.
     fn first_after_call(&self, holds: fn(&Input) -> bool) -> bool {
-        let holds_of = |input| {
-            let before = self.before.input(input);
-            before.activity_alarm && before.soak > 0 && holds(self.after.input(input))
-        };
+        let holds_of =
+            |input| alarm_beside_soak(self.before.input(input)) && holds(self.after.input(input));
         self.accepted_tick() && (1..=8).any(holds_of)
     }
 
@@ -72,8 +79,14 @@ impl Moment<'_> {
         let before = self.before;
         self.accepted_tick()
             && before.reference_selected()
-            && before.input(before.selected).activity_alarm
+            && alarm_beside_soak(before.input(before.selected))
     }
+}
+
+/// Only a call leaves an activity alarm beside a soak: a tick ends the one or
+/// the other.
+fn alarm_beside_soak(input: &Input) -> bool {
+    input.activity_alarm && input.soak > 0
 }
 
 /// Whether the alarm is neither set nor cleared at this level, but kept.
@@ -81,7 +94,7 @@ fn between(set: &BucketSet, input: &Input) -> bool {
     set.clear_level < input.level && input.level < set.set_level
 }
 
-/// The families of like items.
+/// The items, each with its condition.
 pub fn conditions() -> Vec<(String, Condition)> {
     let mut list = family(
         0..=3,
@@ -141,11 +154,12 @@ pub fn conditions() -> Vec<(String, Condition)> {
             m.some_bucket(|set, before, after| set.decay == decay && after.level < before.level)
         },
     ));
+    list.extend(singles(CONDITIONS));
     list
 }
 
 /// The items that are not one of a family.
-pub const CONDITIONS: &[(&str, SingleCondition)] = &[
+const CONDITIONS: &[(&str, SingleCondition)] = &[
     ("bucket set with U = S set", |m| {
         m.set_with(0, |n| n.set_level == n.size)
     }),
