@@ -1,5 +1,5 @@
 //! The sheet tool: a run sheet made from a readable text, shown as that text,
-//! run, printed, and drawn. Every answer comes from the controller's exported
+//! run, printed, and drawn; a text with calls of the host is run and drawn. Every answer comes from the controller's exported
 //! functions; none of its rules is written here again.
 
 #![forbid(unsafe_code)]
@@ -14,9 +14,11 @@ pub mod picture;
 pub mod program;
 pub mod records;
 pub mod registers;
+pub mod script;
 pub mod sheet;
 pub mod show;
 pub mod source;
+pub mod step;
 pub mod stepped;
 pub mod table;
 pub mod time;

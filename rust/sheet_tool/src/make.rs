@@ -1,4 +1,4 @@
-//! From the text to the sheet: `make`.
+//! From the text to what is run, and to the sheet: `make`.
 
 mod assembly;
 mod fault;
@@ -7,14 +7,25 @@ mod statement;
 
 pub use fault::Fault;
 
+use crate::script::Script;
 use crate::sheet::Sheet;
-use assembly::Assembly;
-use statement::statement;
+use crate::step::Step;
+use assembly::{Aim, Assembly};
+use statement::{statement, Statement};
 
-/// The sheet that the text says, statement by statement.
+/// The sheet that the text says. A call is a fault; others are told first.
 pub fn make(text: &[u8]) -> Result<Sheet, Fault> {
+    script(text)?.into_sheet()
+}
+
+/// What the text says, statement by statement: a sheet, if it has no calls.
+pub fn script(text: &[u8]) -> Result<Script, Fault> {
     let text = characters(text)?;
-    let mut assembly = Assembly::default();
+    let aim = match text.lines().any(is_call) {
+        true => Aim::Host,
+        false => Aim::Sheet,
+    };
+    let mut assembly = Assembly::of(aim);
     for (index, words) in text.lines().enumerate() {
         let line = index + 1;
         let fault = |reason| Fault { line, reason };
@@ -22,6 +33,14 @@ pub fn make(text: &[u8]) -> Result<Sheet, Fault> {
         assembly.take(line, statement).map_err(fault)?;
     }
     assembly.finished()
+}
+
+fn is_call(line: &str) -> bool {
+    let step = match statement(line) {
+        Ok(Statement::Steps { step, .. }) => step,
+        _ => return false,
+    };
+    matches!(step, Step::Call(_))
 }
 
 /// The text as characters, without the mark that some editors put in front.

@@ -16,7 +16,7 @@ use crate::time::seconds;
 use fills::{selected_fill, state_fill};
 use layout::{Row, AXIS_LABELS_Y, READY, REFUSED, SELECTED, STATE, SUMMARY_Y, TITLE_Y};
 use scale::{Scale, LEFT, RIGHT};
-use stretches::{changes, end, refusals, stretches};
+use stretches::{calls, changes, end, refusals, stretches};
 use svg::{text_width, Anchor, Svg, NORMAL, TITLE};
 
 /// The picture of a run, an SVG. The same run has the same picture.
@@ -29,16 +29,18 @@ pub fn picture(title: &str, moments: &[Moment]) -> String {
     marks::change_times(&mut svg, &scale, &changes);
     row_names(&mut svg);
     all_rows(&mut svg, &scale, moments);
+    marks::calls(&mut svg, &scale, moments);
     marks::cuts(&mut svg, &scale);
     let height = legend::draw(&mut svg, moments);
     svg.finished(title, layout::WIDTH, height)
 }
 
-/// The scale for the changes and refusals, from 0 to the end.
+/// The scale for the changes, refusals and calls, from 0 to the end.
 fn scale(changes: &[u64], moments: &[Moment]) -> Scale {
     let mut places = vec![0, end(moments)];
     places.extend(changes);
     places.extend(refusals(moments).iter().map(|&(ticks, _)| ticks));
+    places.extend(calls(moments).iter().map(|&(ticks, _)| ticks));
     places.sort_unstable();
     places.dedup();
     Scale::of(&places)

@@ -5,9 +5,8 @@ use crate::help::HELP;
 use crate::output::Output;
 use crate::pages::{pages, with_form_feeds};
 use crate::picture::picture;
-use crate::records::run;
+use crate::script::Script;
 use crate::show::show;
-use crate::stepped::moments;
 use crate::table::table;
 use shared::options::message;
 use std::ffi::OsString;
@@ -41,23 +40,28 @@ fn do_work(work: &Work) -> Result<(), String> {
             work.output.name()
         ));
     }
-    let sheet = match work.text {
+    let script = match work.text {
         true => work.source.read_text()?,
-        false => work.source.read_sheet()?,
+        false => Script::Sheet(work.source.read_sheet()?),
+    };
+    let sheet_of = |script: Script| {
+        let sheet = script.into_sheet();
+        sheet.map_err(|fault| work.source.at_fault(&fault))
     };
     let result = match work.command {
-        Command::Make => sheet.to_bytes(),
-        Command::Show => show(&sheet).into_bytes(),
-        Command::Run => table(&run(&sheet), work.all).into_bytes(),
+        Command::Make => sheet_of(script)?.to_bytes(),
+        Command::Show => show(&sheet_of(script)?).into_bytes(),
+        Command::Run => table(&script.records(), work.all).into_bytes(),
         Command::Page => {
-            let pages = pages(&sheet).map_err(|number| work.source.refused(number))?;
+            let pages = pages(&sheet_of(script)?).map_err(|number| work.source.refused(number))?;
             match work.form_feed {
                 true => with_form_feeds(&pages),
                 false => pages,
             }
         }
         Command::Picture => {
-            let moments = moments(&sheet, &run(&sheet))
+            let moments = script
+                .moments()
                 .map_err(|reason| format!("{}: {}", work.source.name(), reason))?;
             picture(&work.source.title(), &moments).into_bytes()
         }

@@ -1,7 +1,8 @@
 //! The records of a run, as words can tell them.
 
 use crate::sheet::Sheet;
-use controller::{STATES, TICK};
+use crate::step::Step;
+use controller::STATES;
 use sheets::BYTES_PER_RECORD;
 
 /// A record of document 01: the refusal or 0, then the bytes of 0x48, 0x46 and
@@ -77,16 +78,11 @@ pub fn run(sheet: &Sheet) -> Vec<Timed> {
     let written = sheets::run(&sheet.to_bytes(), &mut output);
     let records = output[..written].chunks(BYTES_PER_RECORD);
     let mut ticks = 0;
-    let timed = |(step, bytes)| {
+    let timed = |(step, bytes): (Step, _)| {
         let record = Record::from_bytes(bytes);
-        ticks += passed(step, record.refusal);
+        ticks += step.ticks(record.refusal);
         Timed { ticks, record }
     };
-    let kinds = sheet.steps().map(|step| step.kind);
-    kinds.zip(records).map(timed).collect()
-}
-
-/// How many ticks an event takes: 1 for an accepted tick, else 0.
-fn passed(kind: u8, refusal: u8) -> u64 {
-    u64::from(kind == TICK && refusal == 0)
+    let steps = sheet.steps().map(Step::Event);
+    steps.zip(records).map(timed).collect()
 }

@@ -13,6 +13,11 @@ pub struct Sheet {
     pub events: Vec<Event>,
 }
 
+/// The write that a setting is run as.
+pub fn write(&(address, value): &Setting) -> Event {
+    Event::short(WRITE, address, value)
+}
+
 /// How many bytes a sheet of so many settings and events has.
 pub fn length(settings: usize, events: usize) -> usize {
     2 * BYTES_PER_COUNT + BYTES_PER_SETTING * settings + BYTES_PER_EVENT * events
@@ -64,7 +69,6 @@ impl Sheet {
 
     /// What the sheet runs: the settings as writes, then the events.
     pub fn steps(&self) -> impl Iterator<Item = Event> + '_ {
-        let write = |&(address, value): &Setting| Event::short(WRITE, address, value);
         let settings = self.settings.iter().map(write);
         settings.chain(self.events.iter().copied())
     }

@@ -1,7 +1,8 @@
 //! What a result is made from: a text or a sheet, in a file or from standard
 //! input.
 
-use crate::make::make;
+use crate::make::{script, Fault};
+use crate::script::Script;
 use crate::sheet::Sheet;
 use controller::reason;
 use sheets::LONGEST_SHEET;
@@ -57,13 +58,18 @@ impl Source {
         ending.map_or(false, |ending| ending.eq_ignore_ascii_case("txt"))
     }
 
-    /// The sheet that a text says.
-    pub fn read_text(&self) -> Result<Sheet, String> {
+    /// What a text says.
+    pub fn read_text(&self) -> Result<Script, String> {
         let text = self.read(LONGEST_TEXT)?;
         if text.len() > LONGEST_TEXT {
             return Err(format!("{}: a text over 4,000,000 bytes", self.name()));
         }
-        make(&text).map_err(|fault| format!("{}:{}: {}", self.name(), fault.line, fault.reason))
+        script(&text).map_err(|fault| self.at_fault(&fault))
+    }
+
+    /// What is said of a text that is at fault.
+    pub fn at_fault(&self, fault: &Fault) -> String {
+        format!("{}:{}: {}", self.name(), fault.line, fault.reason)
     }
 
     /// The sheet itself. One that is too long is refused for the byte over the

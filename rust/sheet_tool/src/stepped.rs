@@ -1,8 +1,9 @@
-//! The run once more, by a unit that takes one event after the other: it also
-//! tells the available inputs, which the records do not have.
+//! A run by the host's functions: a unit that takes one step after the other. It
+//! also tells the available inputs, which the records do not have.
 
 use crate::records::{Record, Timed};
 use crate::sheet::Sheet;
+use crate::step::{Call, Step};
 use controller::Unit;
 
 /// What is to be seen from a time on, in accepted ticks.
@@ -11,25 +12,36 @@ pub struct Moment {
     pub ticks: u64,
     pub record: Record,
     pub available: u8,
+    /// The call that it comes after, if one.
+    pub call: Option<Call>,
 }
 
-/// The fresh unit, and then the unit after each step of the sheet; or the first
-/// record that the stepped unit does not agree with.
-pub fn moments(sheet: &Sheet, records: &[Timed]) -> Result<Vec<Moment>, String> {
+/// The fresh unit, and then the unit after each step.
+pub fn stepped(steps: impl Iterator<Item = Step>) -> Vec<Moment> {
     let mut unit = Unit::fresh();
-    let mut moments = vec![moment(&unit, 0, 0)];
-    for (index, (step, timed)) in sheet.steps().zip(records).enumerate() {
-        let refusal = unit.event(step.kind, step.a, step.b, step.word);
-        let moment = moment(&unit, timed.ticks, refusal);
+    let mut moments = vec![moment(&unit, 0, 0, None)];
+    let mut ticks = 0;
+    for step in steps {
+        let refusal = step.give(&mut unit);
+        ticks += step.ticks(refusal);
+        moments.push(moment(&unit, ticks, refusal, step.call()));
+    }
+    moments
+}
+
+/// The moments of a sheet; or the first record of its run that the stepped unit
+/// does not agree with.
+pub fn moments(sheet: &Sheet, records: &[Timed]) -> Result<Vec<Moment>, String> {
+    let moments = stepped(sheet.steps().map(Step::Event));
+    for (index, (moment, timed)) in moments.iter().skip(1).zip(records).enumerate() {
         if moment.record != timed.record {
             return Err(difference(index, timed.record, moment.record));
         }
-        moments.push(moment);
     }
     Ok(moments)
 }
 
-fn moment(unit: &Unit, ticks: u64, refusal: u8) -> Moment {
+fn moment(unit: &Unit, ticks: u64, refusal: u8, call: Option<Call>) -> Moment {
     let byte = |address| unit.read(address).1;
     Moment {
         ticks,
@@ -40,6 +52,7 @@ fn moment(unit: &Unit, ticks: u64, refusal: u8) -> Moment {
             status: byte(0x49),
         },
         available: byte(0x47),
+        call,
     }
 }
 

@@ -1,20 +1,36 @@
-//! The sheet as its statements come: the order of settings and events, repeated
-//! groups, and the limits of a sheet, which are checked before anything grows.
+//! The script as its statements come: the order of settings and events, repeated
+//! groups, and the limits, which are checked before anything grows.
 
 use super::fault::Fault;
 use super::field::GROUP_DEPTH;
 use super::statement::Statement;
-use crate::sheet::{length, Setting, Sheet};
+use crate::script::{Host, Script};
+use crate::sheet::{length, write, Setting, Sheet};
+use crate::step::{Call, Step};
 use sheets::{LONGEST_SHEET, MOST_SETTINGS};
 
-#[derive(Default)]
+/// So many records a text with calls gives at most: 35 hours of ticks.
+const MOST_STEPS: usize = 1_000_000;
+
+/// What the text is to become, which decides its limits.
+#[derive(Clone, Copy, Debug, PartialEq, Eq)]
+pub enum Aim {
+    Sheet,
+    /// The text has calls.
+    Host,
+}
+
 pub struct Assembly {
-    sheet: Sheet,
+    aim: Aim,
+    settings: Vec<Setting>,
+    steps: Vec<Step>,
+    /// The first call, and its line.
+    call: Option<(usize, Call)>,
     /// The repeats that have no end yet, the innermost last.
     open: Vec<Group>,
 }
 
-/// A repeat: where it stands in the text, and its first event in the sheet.
+/// A repeat: where it stands in the text, and its first step.
 struct Group {
     line: usize,
     count: usize,
@@ -22,15 +38,25 @@ struct Group {
 }
 
 impl Assembly {
+    pub fn of(aim: Aim) -> Assembly {
+        Assembly {
+            aim,
+            settings: vec![],
+            steps: vec![],
+            call: None,
+            open: vec![],
+        }
+    }
+
     /// Adds the statement of this line, or says why it cannot be added.
     pub fn take(&mut self, line: usize, statement: Statement) -> Result<(), String> {
         match statement {
             Statement::Nothing => Ok(()),
             Statement::Settings { count, setting } => self.set(count, setting),
-            Statement::Events { count, event } => {
+            Statement::Steps { count, step } => {
                 self.need_room(count)?;
-                let events = std::iter::repeat(event).take(count);
-                self.sheet.events.extend(events);
+                self.steps.extend(std::iter::repeat(step).take(count));
+                self.call = self.call.or(step.call().map(|call| (line, call)));
                 Ok(())
             }
             Statement::Repeat { count } => self.begin(line, count),
@@ -38,29 +64,53 @@ impl Assembly {
         }
     }
 
-    /// The whole sheet; a repeat that is still open is a fault.
-    pub fn finished(self) -> Result<Sheet, Fault> {
-        match self.open.first() {
-            None => Ok(self.sheet),
-            Some(group) => Err(Fault {
+    /// The whole script; a repeat that is still open is a fault.
+    pub fn finished(self) -> Result<Script, Fault> {
+        if let Some(group) = self.open.first() {
+            return Err(Fault {
                 line: group.line,
                 reason: "this repeat has no end".to_string(),
-            }),
+            });
+        }
+        let (line, call) = match self.call {
+            None => return Ok(Script::Sheet(self.sheet())),
+            Some(call) => call,
+        };
+        let reason = format!(
+            "a run sheet has no place for {}; run and picture take it",
+            call.word()
+        );
+        let settings = self.settings.iter().map(write).map(Step::Event);
+        Ok(Script::Host(Host {
+            steps: settings.chain(self.steps).collect(),
+            no_sheet: Fault { line, reason },
+        }))
+    }
+
+    /// The sheet of a text without calls.
+    fn sheet(self) -> Sheet {
+        let event = |step: Step| match step {
+            Step::Event(event) => Some(event),
+            Step::Call(_) => None,
+        };
+        Sheet {
+            settings: self.settings,
+            events: self.steps.into_iter().filter_map(event).collect(),
         }
     }
 
     fn set(&mut self, count: usize, setting: Setting) -> Result<(), String> {
-        if !self.sheet.events.is_empty() {
+        if !self.steps.is_empty() {
             return Err("a setting after an event; write is for those".to_string());
         }
         if !self.open.is_empty() {
             return Err("a setting in a repeat; only events can stand there".to_string());
         }
-        if self.sheet.settings.len() + count > MOST_SETTINGS {
+        if self.aim == Aim::Sheet && self.settings.len() + count > MOST_SETTINGS {
             return Err(format!("more than {} settings", MOST_SETTINGS));
         }
         let settings = std::iter::repeat(setting).take(count);
-        self.sheet.settings.extend(settings);
+        self.settings.extend(settings);
         Ok(())
     }
 
@@ -68,15 +118,15 @@ impl Assembly {
         if self.open.len() == GROUP_DEPTH {
             return Err(format!("repeats stand more than {} deep", GROUP_DEPTH));
         }
-        let first = self.sheet.events.len();
+        let first = self.steps.len();
         self.open.push(Group { line, count, first });
         Ok(())
     }
 
-    /// The group's events stand in the sheet once; the other times follow.
+    /// The group's steps stand there once; the other times follow.
     fn end(&mut self) -> Result<(), String> {
         let group = self.open.pop().ok_or("an end without a repeat")?;
-        let body = group.first..self.sheet.events.len();
+        let body = group.first..self.steps.len();
         if body.is_empty() {
             return Ok(());
         }
@@ -84,16 +134,21 @@ impl Assembly {
         self.need_room(more * body.len())
             .map_err(|reason| format!("{} (repeat of line {})", reason, group.line))?;
         for _ in 0..more {
-            self.sheet.events.extend_from_within(body.clone());
+            self.steps.extend_from_within(body.clone());
         }
         Ok(())
     }
 
-    fn need_room(&self, more_events: usize) -> Result<(), String> {
-        let events = self.sheet.events.len() + more_events;
-        if length(self.sheet.settings.len(), events) > LONGEST_SHEET {
-            return Err("the sheet would be over 65,535 bytes".to_string());
+    fn need_room(&self, more_steps: usize) -> Result<(), String> {
+        let (settings, steps) = (self.settings.len(), self.steps.len() + more_steps);
+        match self.aim {
+            Aim::Sheet if length(settings, steps) > LONGEST_SHEET => {
+                Err("the sheet would be over 65,535 bytes".to_string())
+            }
+            Aim::Host if settings + steps > MOST_STEPS => {
+                Err("there would be more than 1,000,000 records".to_string())
+            }
+            _ => Ok(()),
         }
-        Ok(())
     }
 }

@@ -33,6 +33,11 @@ pub const MASK: Field = field("MASK", 0, 255);
 pub const LOCK: Field = field("LOCK", 0, 1);
 pub const SAMPLE: Field = field("SAMPLE", i32::MIN as i64, i32::MAX as i64);
 pub const INPUT: Field = field("INPUT", 0, 255);
+pub const SET: Field = field("SET", 0, 255);
+pub const SIZE: Field = field("SIZE", 0, 255);
+pub const SET_LEVEL: Field = field("SET_LEVEL", 0, 255);
+pub const CLEAR_LEVEL: Field = field("CLEAR_LEVEL", 0, 255);
+pub const DECAY: Field = field("DECAY", 0, 255);
 pub const OFFSET: Field = field("OFFSET", -128, 127);
 pub const COUNT: Field = field("COUNT", 1, MOST_REPEATS);
 

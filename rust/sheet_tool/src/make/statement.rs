@@ -1,15 +1,19 @@
 //! One line of the text: a statement, or nothing.
 
-use super::field::{shortened, Field, ADDRESS, COUNT, INPUT, LOCK, MASK, OFFSET, SAMPLE, VALUE};
+use super::field::{
+    shortened, Field, ADDRESS, CLEAR_LEVEL, COUNT, DECAY, INPUT, LOCK, MASK, OFFSET, SAMPLE, SET,
+    SET_LEVEL, SIZE, VALUE,
+};
 use crate::event::Event;
 use crate::sheet::Setting;
+use crate::step::{Call, Step};
 use controller::{HIT, MEASUREMENT, TICK, WRITE};
 
 #[derive(Clone, Debug, PartialEq, Eq)]
 pub enum Statement {
     Nothing,
     Settings { count: usize, setting: Setting },
-    Events { count: usize, event: Event },
+    Steps { count: usize, step: Step },
     Repeat { count: usize },
     End,
 }
@@ -52,7 +56,7 @@ fn after_count<'a>(count: &str, rest: &'a [&'a str]) -> Result<(&'a str, &'a [&'
     }
 }
 
-/// A setting or an event, so many times.
+/// A setting, an event or a call, so many times.
 fn repeated(count: usize, word: &str, rest: &[&str]) -> Result<Statement, String> {
     let event = match word {
         "setting" => {
@@ -80,14 +84,42 @@ fn repeated(count: usize, word: &str, rest: &[&str]) -> Result<Statement, String
             let [address, value] = fields(word, [ADDRESS, VALUE], rest)?;
             Event::short(WRITE, address as u8, value as u8)
         }
-        _ => return Err(unknown(word)),
+        _ => {
+            let step = Step::Call(call(word, rest)?);
+            return Ok(Statement::Steps { count, step });
+        }
     };
-    Ok(Statement::Events { count, event })
+    let step = Step::Event(event);
+    Ok(Statement::Steps { count, step })
+}
+
+/// A call of the host.
+fn call(word: &str, rest: &[&str]) -> Result<Call, String> {
+    match word {
+        "bucket" => {
+            let numbers = [SET, SIZE, SET_LEVEL, CLEAR_LEVEL, DECAY];
+            let numbers = fields(word, numbers, rest)?.map(|number| number as u8);
+            let [set, size, set_level, clear_level, decay] = numbers;
+            Ok(Call::SetBucket {
+                set,
+                size,
+                set_level,
+                clear_level,
+                decay,
+            })
+        }
+        "assign" => {
+            let [input, set] = fields(word, [INPUT, SET], rest)?.map(|number| number as u8);
+            Ok(Call::AssignBucket { input, set })
+        }
+        _ => Err(unknown(word)),
+    }
 }
 
 fn unknown(word: &str) -> String {
     format!(
-        "unknown word \"{}\"; a statement is setting, tick, measurement, hit, write, repeat or end",
+        "unknown word \"{}\"; a statement is setting, tick, measurement, hit, write, bucket, \
+         assign, repeat or end",
         shortened(word)
     )
 }

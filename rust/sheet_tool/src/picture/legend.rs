@@ -1,19 +1,23 @@
-//! What the fills and bars mean, and the reasons of the refusals that are
-//! marked.
+//! What the fills, bars and lines mean, the reasons of the refusals that are
+//! marked, and the calls.
 
 use super::fills::state_fill;
 use super::layout::{Row, LEGEND_Y, NOTES_Y, NOTE_HEIGHT};
+use super::marks::CALL_LINE;
 use super::rows::{selected_line, BAR, SELECTED_LINE};
 use super::scale::LEFT;
-use super::stretches::refusals;
+use super::stretches::{calls, refusals};
 use super::svg::{text_width, Anchor, Svg, NORMAL};
 use crate::records::state_name;
 use crate::stepped::Moment;
+use crate::time::seconds;
 use controller::{reason, STATES};
 use std::collections::BTreeSet;
 
 const SWATCH: u64 = 18;
 const GAP: u64 = 6;
+/// So many calls are told; of more, how many they are.
+const MOST_CALLS: usize = 12;
 
 /// Draws the legend and says how high the picture is with it.
 pub fn draw(svg: &mut Svg, moments: &[Moment]) -> u64 {
@@ -30,7 +34,12 @@ pub fn draw(svg: &mut Svg, moments: &[Moment]) -> u64 {
     svg.areas([row.area(x, x + SWATCH)], BAR);
     x = name(svg, x, "available");
     svg.areas([selected_line(row).area(x, x + SWATCH)], SELECTED_LINE);
-    name(svg, x, "selected");
+    x = name(svg, x, "selected");
+    if !calls(moments).is_empty() {
+        let line = format!("M{} {}V{}", x + SWATCH / 2, row.y, row.bottom());
+        svg.path(&line, CALL_LINE);
+        name(svg, x, "call");
+    }
     notes(svg, moments)
 }
 
@@ -45,10 +54,19 @@ fn notes(svg: &mut Svg, moments: &[Moment]) -> u64 {
     let refusals = refusals(moments);
     let numbers: BTreeSet<u8> = refusals.iter().map(|&(_, number)| number).collect();
     let mut y = NOTES_Y;
-    for number in numbers {
-        let note = format!("refused {}: {}", number, reason(number));
+    let mut note = |note: String| {
         svg.text(LEFT, y, NORMAL, Anchor::Start, &note);
         y += NOTE_HEIGHT;
+    };
+    for number in numbers {
+        note(format!("refused {}: {}", number, reason(number)));
+    }
+    let calls = calls(moments);
+    for (ticks, call) in calls.iter().take(MOST_CALLS) {
+        note(format!("call at {} s: {}", seconds(*ticks), call));
+    }
+    if calls.len() > MOST_CALLS {
+        note(format!("and {} calls more", calls.len() - MOST_CALLS));
     }
     y
 }

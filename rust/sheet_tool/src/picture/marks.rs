@@ -1,8 +1,8 @@
-//! What is marked over the rows: refusals, the times of changes, and cuts.
+//! What is marked over the rows: refusals, the times of changes, calls, and cuts.
 
 use super::layout::{Row, AXIS_Y, LINES_END, REFUSED, SELECTED, TIME_LEVELS, WIDTH};
 use super::scale::{Scale, CUT_WIDTH};
-use super::stretches::refusals;
+use super::stretches::{calls as calls_of, refusals};
 use super::svg::{text_width, Anchor, Svg, NORMAL, SMALL};
 use crate::stepped::Moment;
 use crate::time::seconds;
@@ -10,6 +10,7 @@ use std::collections::BTreeSet;
 
 const CHANGE_LINE: &str =
     "fill=\"none\" stroke=\"#777\" stroke-width=\"0.7\" stroke-dasharray=\"2 2\"";
+pub const CALL_LINE: &str = "fill=\"none\" stroke=\"#05a\" stroke-width=\"1.5\"";
 
 /// The refusals, each marked at its time. The numbers stand below; those without
 /// room for their own stand with the one before.
@@ -78,6 +79,15 @@ pub fn change_times(svg: &mut Svg, scale: &Scale, changes: &[u64]) {
         }
     }
     svg.path(&lines, CHANGE_LINE);
+}
+
+/// The calls, each a line through the rows.
+pub fn calls(svg: &mut Svg, scale: &Scale, moments: &[Moment]) {
+    let places = calls_of(moments).into_iter();
+    let places: BTreeSet<u64> = places.map(|(ticks, _)| scale.x(ticks)).collect();
+    let line = |x: &u64| format!("M{} {}V{}", x, SELECTED.y, LINES_END);
+    let lines: String = places.iter().map(line).collect();
+    svg.path(&lines, CALL_LINE);
 }
 
 /// The cuts, over all rows.

@@ -1,5 +1,6 @@
 //! Values over time: the stretches in which they stay the same.
 
+use crate::step::Call;
 use crate::stepped::Moment;
 
 /// From a tick up to, but not with, another.
@@ -42,6 +43,12 @@ pub fn refusals(moments: &[Moment]) -> Vec<(u64, u8)> {
     refused
         .map(|moment| (moment.ticks, moment.record.refusal))
         .collect()
+}
+
+/// The calls: tick and call.
+pub fn calls(moments: &[Moment]) -> Vec<(u64, Call)> {
+    let call = |moment: &Moment| moment.call.map(|call| (moment.ticks, call));
+    moments.iter().filter_map(call).collect()
 }
 
 /// The ticks at which something that is drawn over time changes.

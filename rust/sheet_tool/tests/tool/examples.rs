@@ -4,15 +4,14 @@ use crate::files::{example, examples, examples_with, read};
 use crate::process::sheet;
 use crate::round_trip;
 use crate::same_records;
-use sheet_tool::make::make;
-use sheet_tool::records::run;
-use sheet_tool::sheet::Sheet;
+use sheet_tool::script::Script;
 use sheet_tool::table::table;
 use std::fs;
 
-fn made(name: &str) -> Sheet {
+/// What an example says.
+pub fn script(name: &str) -> Script {
     let text = read(&example(name, "txt"));
-    make(&text).unwrap_or_else(|fault| panic!("{}: {:?}", name, fault))
+    sheet_tool::make::script(&text).unwrap_or_else(|fault| panic!("{}: {:?}", name, fault))
 }
 
 #[test]
@@ -24,7 +23,7 @@ fn each_has_the_records_beside_it() {
         );
         let records = fs::read_to_string(example(&name, "records"))
             .unwrap_or_else(|error| panic!("{}.records: {}; {} makes it", name, error, command));
-        let run = table(&run(&made(&name)), false);
+        let run = table(&script(&name).records(), false);
         assert!(
             run == records,
             "{}.records is not what the run gives, which is\n{}{} makes it so",
@@ -49,21 +48,27 @@ fn no_records_and_no_page_are_without_their_text() {
 #[test]
 fn the_model_gives_the_same_records() {
     for name in examples() {
-        same_records::check(&made(&name));
+        match script(&name) {
+            Script::Sheet(sheet) => same_records::check(&sheet),
+            Script::Host(host) => same_records::check_host(&host),
+        }
     }
 }
 
 #[test]
 fn each_is_shown_and_made_again() {
     for name in examples() {
-        round_trip::check(&made(&name).to_bytes());
+        if let Script::Sheet(sheet) = script(&name) {
+            round_trip::check(&sheet.to_bytes());
+        }
     }
 }
 
 #[test]
 fn the_sheet_of_document_01() {
     let bytes = read(&example("document-01", "sheet"));
-    assert_eq!(made("document-01").to_bytes(), bytes);
+    let made = script("document-01").into_sheet().expect("no calls");
+    assert_eq!(made.to_bytes(), bytes);
     let outcome = sheet(&["make", &example("document-01", "txt")]);
     assert_eq!((outcome.status, outcome.output), (Some(0), bytes));
     for command in ["show", "run", "page"] {
@@ -80,7 +85,7 @@ fn all_records_have_a_line_each() {
     for name in examples() {
         let text = sheet(&["run", "--all", &example(&name, "txt")]).text();
         let lines = text.lines().skip(1);
-        assert_eq!(lines.clone().count(), run(&made(&name)).len());
+        assert_eq!(lines.clone().count(), script(&name).records().len());
         for (index, line) in lines.enumerate() {
             let index = index.to_string();
             let mut words = line.split_whitespace();

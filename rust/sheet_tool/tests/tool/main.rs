@@ -1,5 +1,6 @@
 //! The sheet tool's tests: its parts as functions, and the program as a process.
 
+mod calls;
 mod commands;
 mod examples;
 mod faults;

@@ -1,12 +1,14 @@
 //! The pages: those of the examples are what the tool makes, those of every
 //! sheet the model's, and form feeds stand between them.
 
+use crate::examples::script;
 use crate::files::{example, examples, examples_with, read_text};
 use crate::process::{sheet, sheet_with};
 use crate::random;
 use shared::random::Random;
 use sheet_tool::make::make;
 use sheet_tool::pages::{pages, with_form_feeds};
+use sheet_tool::script::Script;
 use sheet_tool::sheet::Sheet;
 
 /// The pages of a sheet, which must be those of the model.
@@ -38,8 +40,9 @@ fn the_pages_of_the_examples_are_the_tools() {
 #[test]
 fn the_model_gives_the_same_pages() {
     for name in examples() {
-        let text = read_text(&example(&name, "txt"));
-        checked(&make(text.as_bytes()).expect("a sheet"));
+        if let Script::Sheet(sheet) = script(&name) {
+            checked(&sheet);
+        }
     }
     let mut random = Random::new(6);
     for _ in 0..200 {

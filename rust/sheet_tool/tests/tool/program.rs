@@ -42,6 +42,8 @@ fn help_says_it_all() {
         "measurement",
         "hit",
         "write",
+        "bucket",
+        "assign",
         "repeat",
         "end",
         "COUNT x",

@@ -1,29 +1,70 @@
 //! A sheet's records are those of the independent model, and of a unit that is
-//! stepped through the sheet.
+//! stepped through the sheet by the host's functions; a text's with calls are
+//! the model's too.
 
-use sheet_tool::records::run;
+use model::{BucketSet, Unit};
+use sheet_tool::event::Event;
+use sheet_tool::records::{run, Timed};
+use sheet_tool::script::{timed, Host};
 use sheet_tool::sheet::Sheet;
-use sheet_tool::stepped::moments;
+use sheet_tool::step::{Call, Step};
+use sheet_tool::stepped::{moments, stepped};
 
 pub fn check(sheet: &Sheet) {
     let records = run(sheet);
     let model = model::records(&sheet.to_bytes()).expect("a sheet that is not refused");
-    assert_eq!(records.len(), model.len());
-    for (index, (timed, model)) in records.iter().zip(model).enumerate() {
-        let record = timed.record;
-        let [refusal, state, qualified, status] = model;
-        assert_eq!(
-            (
-                record.refusal,
-                record.state,
-                record.qualified,
-                record.status
-            ),
-            (refusal, state, qualified, status),
-            "record {}",
-            index
-        );
-    }
+    compare(&records, &model);
     let moments = moments(sheet, &records).expect("no difference");
     assert_eq!(moments.len(), records.len() + 1);
+    assert_eq!(timed(&moments), records);
+}
+
+/// The records of a text with calls.
+pub fn check_host(host: &Host) {
+    let mut unit = Unit::fresh();
+    let record = |&step: &Step| {
+        let refusal = given_to_the_model(&mut unit, step);
+        let [state, qualified, status] = [0x48, 0x46, 0x49].map(|address| unit.read(address).1);
+        [refusal, state, qualified, status]
+    };
+    let model: Vec<model::Record> = host.steps.iter().map(record).collect();
+    compare(&timed(&stepped(host.steps.iter().copied())), &model);
+}
+
+fn compare(records: &[Timed], model: &[model::Record]) {
+    assert_eq!(records.len(), model.len());
+    for (index, (timed, &model)) in records.iter().zip(model).enumerate() {
+        let record = timed.record;
+        let bytes = [
+            record.refusal,
+            record.state,
+            record.qualified,
+            record.status,
+        ];
+        assert_eq!(bytes, model, "record {}", index);
+    }
+}
+
+fn given_to_the_model(unit: &mut Unit, step: Step) -> u8 {
+    match step {
+        Step::Event(Event { kind, a, b, word }) => unit.event_fields(kind, a, b, word),
+        Step::Call(Call::AssignBucket { input, set }) => {
+            unit.call(&model::Call::AssignBucket { input, set })
+        }
+        Step::Call(Call::SetBucket {
+            set,
+            size,
+            set_level,
+            clear_level,
+            decay,
+        }) => {
+            let numbers = BucketSet {
+                size,
+                set_level,
+                clear_level,
+                decay,
+            };
+            unit.call(&model::Call::SetBucket { set, numbers })
+        }
+    }
 }

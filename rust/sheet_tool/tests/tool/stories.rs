@@ -3,8 +3,8 @@
 
 use crate::files::{example, examples, read_text};
 use controller::STATES;
-use sheet_tool::make::make;
-use sheet_tool::records::{run, Timed};
+use sheet_tool::make::script;
+use sheet_tool::records::Timed;
 use sheet_tool::time::{seconds, TICK_MS};
 
 /// So many lines a story has at least.
@@ -86,8 +86,13 @@ fn check_line(told: &Told, records: &[Timed]) -> Result<(), String> {
     }
 }
 
+/// The records of a text, with calls or not.
+fn records(text: &str) -> Vec<Timed> {
+    script(text.as_bytes()).expect("a text").records()
+}
+
 fn check_story(text: &str, least: usize) -> Result<(), String> {
-    let records = run(&make(text.as_bytes()).expect("a sheet"));
+    let records = records(text);
     let story = story(text)?;
     if story.len() < least {
         return Err(format!(
@@ -108,8 +113,7 @@ fn check_times(text: &str) -> Result<(), String> {
         let (statement, comment) = line.split_once('#').unwrap_or((line, ""));
         let words: Vec<_> = comment.split_whitespace().collect();
         if let (false, Some(ms)) = (statement.is_empty(), time(&words)) {
-            let records = run(&make(before.as_bytes()).expect("a sheet"));
-            let ticks = records.last().map_or(0, |timed| timed.ticks);
+            let ticks = records(&before).last().map_or(0, |timed| timed.ticks);
             if ms != TICK_MS * ticks {
                 return Err(format!("{}: it is {} s after it", line, seconds(ticks)));
             }

@@ -1,0 +1,118 @@
+//! The controller and the fields of the state that it shares with its host, beside
+//! the model's.
+
+use differ::device::Device;
+use model::{Blocks, BucketSet, Call};
+
+/// The controller with a model beside it. An event or call after which their
+/// fields do not agree is answered by a refusal that there is not.
+#[derive(Clone, PartialEq)]
+pub struct Inspected {
+    controller: controller::Unit,
+    model: model::Unit,
+}
+
+const FIELDS_DISAGREE: u8 = 255;
+
+impl Inspected {
+    pub fn fresh_pair() -> Inspected {
+        Inspected {
+            controller: controller::Unit::fresh(),
+            model: model::Unit::fresh(),
+        }
+    }
+
+    /// The refusal, if the fields agree.
+    fn answer(&self, refusal: u8) -> u8 {
+        let fields_agree = self.inputs_agree()
+            && self.buckets_agree()
+            && self.history_agrees()
+            && self.selection_agrees();
+        if fields_agree {
+            refusal
+        } else {
+            FIELDS_DISAGREE
+        }
+    }
+
+    fn inputs_agree(&self) -> bool {
+        let monitors = &self.controller.monitors;
+        self.model.inputs.iter().enumerate().all(|(i, input)| {
+            monitors.level[i] == u16::from(input.level)
+                && monitors.decay[i] == u16::from(input.decay)
+                && monitors.active[i] == u16::from(input.activity_alarm)
+                && monitors.frequency[i] == u16::from(input.frequency_alarm)
+                && monitors.remainder[i] == input.remainder
+                && monitors.soak[i] == u16::from(input.soak)
+        })
+    }
+
+    fn buckets_agree(&self) -> bool {
+        let (stored, buckets) = (&self.controller.buckets, &self.model.buckets);
+        let row = |number: fn(&BucketSet) -> u8| buckets.sets.map(|set| u16::from(number(&set)));
+        stored.size == row(|set| set.size)
+            && stored.set_level == row(|set| set.set_level)
+            && stored.clear_level == row(|set| set.clear_level)
+            && stored.decay_ticks == row(BucketSet::decay_ticks)
+            && stored.assigned == buckets.assigned.map(u16::from)
+    }
+
+    fn history_agrees(&self) -> bool {
+        let (stored, history) = (&self.controller.history, &self.model.history);
+        let tally = &stored.tally;
+        let none = Blocks::new();
+        let building = history.building.as_ref();
+        let backup = history.backup.as_ref();
+        tally.open == history.open.sum
+            && u32::from(tally.filled) == history.open.samples
+            && (tally.builds != 0) == building.is_some()
+            && blocks_agree(&stored.sums, tally.count, &history.kept)
+            && blocks_agree(&stored.building, tally.built, building.unwrap_or(&none))
+            && blocks_agree(&stored.backup, tally.backed, backup.unwrap_or(&none))
+            && tally.last == history.last_reference.unwrap_or(0)
+            && tally.command == self.model.settings.command
+    }
+
+    fn selection_agrees(&self) -> bool {
+        let (unit, model) = (&self.controller, &self.model);
+        let wait = model.wait;
+        unit.choice.selected == model.selected
+            && unit.choice.wait == u64::from(wait.ticks)
+            && (wait.ticks == 0 || unit.choice.aim == wait.best)
+            && u64::from(unit.holding) == model.holdover_ticks
+            && unit.pll.mode == model.pll.state as u16
+            && unit.pll.lock == u16::from(model.pll.lock_run)
+            && unit.pll.unlock == model.pll.unlock_run
+    }
+}
+
+/// The first sums that are counted, the newest first, are these blocks.
+fn blocks_agree(sums: &[i64; 64], count: u8, blocks: &Blocks) -> bool {
+    sums[..usize::from(count)].iter().eq(blocks.iter().rev())
+}
+
+impl Device for Inspected {
+    fn name(&self) -> &'static str {
+        "controller and its fields"
+    }
+
+    fn fresh(&self) -> Inspected {
+        Inspected::fresh_pair()
+    }
+
+    fn event(&mut self, kind: u8, a: u8, b: u8, word: i32) -> u8 {
+        let refusal = self.controller.event(kind, a, b, word);
+        self.model.event_fields(kind, a, b, word);
+        self.answer(refusal)
+    }
+
+    fn call(&mut self, call: Call) -> u8 {
+        let refusal = Device::call(&mut self.controller, call);
+        self.model.call(&call);
+        self.answer(refusal)
+    }
+
+    fn read(&self, address: u8) -> (u8, u8) {
+        self.controller.read(address)
+    }
+}
