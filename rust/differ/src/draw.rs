@@ -108,12 +108,10 @@ pub fn bucket_numbers(random: &mut Random) -> BucketSet {
     let set_level = random.pick(&[size, any_level, any_level]);
     let any_level = random.below(set_level);
     let clear_level = random.pick(&[set_level - 1, any_level, 0]);
-    BucketSet {
-        size: size as u8,
-        set_level: set_level as u8,
-        clear_level: clear_level as u8,
-        decay: random.below(4) as u8,
-    }
+    let decay = random.below(4);
+    let [size, set_level, clear_level, decay] =
+        [size, set_level, clear_level, decay].map(|number| number as u8);
+    BucketSet::of(size, set_level, clear_level, decay)
 }
 
 /// Numbers of a bucket set with one bound overstepped, often by 1.
@@ -186,11 +184,6 @@ pub fn any_call(random: &mut Random) -> Call {
         random.pick(&[byte % 4, byte % 10, byte])
     };
     let (set, input) = (byte(), byte());
-    let numbers = BucketSet {
-        size: byte(),
-        set_level: byte(),
-        clear_level: byte(),
-        decay: byte(),
-    };
+    let numbers = BucketSet::of(byte(), byte(), byte(), byte());
     random.pick(&[set_bucket(set, numbers), assign_bucket(input, set)])
 }

@@ -4,6 +4,9 @@ use crate::fields::Fields;
 use model::{BucketSet, Call, Event};
 use std::fmt;
 
+/// So many plainer forms there are at most.
+pub const PLAINER_FORMS: usize = 3;
+
 #[derive(Clone, Copy, Debug, PartialEq, Eq)]
 pub enum Sent {
     Fields(Fields),

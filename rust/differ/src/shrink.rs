@@ -7,7 +7,7 @@ use crate::difference::{Mismatch, Name};
 use crate::list::List;
 use crate::pair::Pair;
 use crate::run;
-use crate::sent::Sent;
+use crate::sent::{Sent, PLAINER_FORMS};
 use model::Unit;
 use shared::leave_out::{leave_out, Budget};
 use shared::runs::{runs, Run};
@@ -54,22 +54,15 @@ impl<D: Device> Shrink<'_, D> {
         );
     }
 
-    /// Tries each event and call with one of its parts plainer, then those
-    /// that are left with another.
+    /// Tries the plainer forms of each event and call.
     fn make_plainer(&mut self) {
-        for part in 0.. {
+        for form in 0..PLAINER_FORMS {
             let mut index = 0;
-            let mut parts = 0;
             while index < self.events.len() {
-                let choices = self.events[index].plainer();
-                parts = parts.max(choices.len());
-                if let Some(&plainer) = choices.get(part) {
+                if let Some(&plainer) = self.events[index].plainer().get(form) {
                     self.replace(index, plainer);
                 }
                 index += 1;
-            }
-            if part + 1 >= parts {
-                break;
             }
         }
     }

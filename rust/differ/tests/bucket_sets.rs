@@ -85,16 +85,6 @@ impl<D: Device> Bench<D> {
     }
 }
 
-/// S, U, L and d.
-fn numbers(size: u8, set_level: u8, clear_level: u8, decay: u8) -> BucketSet {
-    BucketSet {
-        size,
-        set_level,
-        clear_level,
-        decay,
-    }
-}
-
 /// The ticks in which a call's alarm is cleared: (S − L) times 2^d.
 fn ticks_to_clear(set: BucketSet) -> u32 {
     u32::from(set.size - set.clear_level) << set.decay
@@ -121,10 +111,10 @@ fn check_bounds<D: Device>(make: &D) {
     let decays = [(0, 0), (1, 0), (2, 0), (3, 0), (4, 14), (255, 14)]
         .map(|(decay, answer)| (0, BucketSet { decay, ..fresh }, answer));
     let largest = [
-        (0, numbers(255, 255, 254, 3), 0),
-        (0, numbers(1, 1, 0, 0), 0),
-        (0, numbers(255, 255, 255, 3), 14),
-        (0, numbers(0, 0, 0, 0), 14),
+        (0, BucketSet::of(255, 255, 254, 3), 0),
+        (0, BucketSet::of(1, 1, 0, 0), 0),
+        (0, BucketSet::of(255, 255, 255, 3), 14),
+        (0, BucketSet::of(0, 0, 0, 0), 14),
     ];
     let settings = sets.into_iter().chain(sizes).chain(set_levels);
     let settings = settings.chain(clear_levels).chain(decays).chain(largest);
@@ -156,13 +146,13 @@ fn the_bounds_of_each_number() {
 /// The sets of the promise: most with (S − L) times 2^d above 782.
 fn sets() -> [BucketSet; 8] {
     [
-        numbers(255, 1, 0, 3),
-        numbers(255, 255, 100, 3),
-        numbers(200, 150, 50, 3),
-        numbers(255, 60, 59, 2),
-        numbers(100, 90, 2, 3),
-        numbers(97, 50, 0, 3),
-        numbers(255, 255, 254, 0),
+        BucketSet::of(255, 1, 0, 3),
+        BucketSet::of(255, 255, 100, 3),
+        BucketSet::of(200, 150, 50, 3),
+        BucketSet::of(255, 60, 59, 2),
+        BucketSet::of(100, 90, 2, 3),
+        BucketSet::of(97, 50, 0, 3),
+        BucketSet::of(255, 255, 254, 0),
         BucketSet::FRESH,
     ]
 }
@@ -277,14 +267,14 @@ fn qualified_at<D: Device>(make: &D, set: BucketSet) -> u32 {
 /// begins anew with the tick that clears the alarm.
 fn check_soak<D: Device>(make: &D) {
     for (set, tick) in [
-        (numbers(1, 1, 0, 0), 79),
-        (numbers(5, 5, 4, 0), 79),
-        (numbers(255, 255, 254, 0), 79),
-        (numbers(2, 1, 0, 0), 42 + 78),
-        (numbers(6, 5, 4, 0), 42 + 78),
-        (numbers(255, 254, 253, 0), 42 + 78),
-        (numbers(5, 5, 4, 1), 42 + 78),
-        (numbers(5, 5, 4, 3), 48 + 78),
+        (BucketSet::of(1, 1, 0, 0), 79),
+        (BucketSet::of(5, 5, 4, 0), 79),
+        (BucketSet::of(255, 255, 254, 0), 79),
+        (BucketSet::of(2, 1, 0, 0), 42 + 78),
+        (BucketSet::of(6, 5, 4, 0), 42 + 78),
+        (BucketSet::of(255, 254, 253, 0), 42 + 78),
+        (BucketSet::of(5, 5, 4, 1), 42 + 78),
+        (BucketSet::of(5, 5, 4, 3), 48 + 78),
     ] {
         assert_eq!(qualified_at(make, set), tick, "{:?}", set);
     }
@@ -316,16 +306,22 @@ fn check_call<D: Device>(make: &D, call: Call) {
 fn check_all_numbers<D: Device>(make: &D) {
     let bases = [
         (0, BucketSet::FRESH),
-        (0, numbers(128, 128, 127, 0)),
-        (3, numbers(255, 2, 1, 3)),
+        (0, BucketSet::of(128, 128, 127, 0)),
+        (3, BucketSet::of(255, 2, 1, 3)),
     ];
     for (set, base) in bases {
         for byte in 0..=255 {
             let calls = [
                 (byte, base),
                 (set, BucketSet { size: byte, ..base }),
-                (set, numbers(base.size, byte, base.clear_level, base.decay)),
-                (set, numbers(base.size, base.set_level, byte, base.decay)),
+                (
+                    set,
+                    BucketSet::of(base.size, byte, base.clear_level, base.decay),
+                ),
+                (
+                    set,
+                    BucketSet::of(base.size, base.set_level, byte, base.decay),
+                ),
                 (
                     set,
                     BucketSet {

@@ -104,12 +104,7 @@ const fn event(kind: u8, a: u8, b: u8, word: i32) -> Sent {
 }
 
 const fn set(set: u8, size: u8, set_level: u8, clear_level: u8, decay: u8) -> Sent {
-    let numbers = BucketSet {
-        size,
-        set_level,
-        clear_level,
-        decay,
-    };
+    let numbers = BucketSet::of(size, set_level, clear_level, decay);
     Sent::Call(Call::SetBucket { set, numbers })
 }
 

@@ -18,12 +18,17 @@ pub struct BucketSet {
 
 impl BucketSet {
     /// "All sets start as 8, 6, 4, 1."
-    pub const FRESH: BucketSet = BucketSet {
-        size: 8,
-        set_level: 6,
-        clear_level: 4,
-        decay: 1,
-    };
+    pub const FRESH: BucketSet = BucketSet::of(8, 6, 4, 1);
+
+    /// The set of these S, U, L and d.
+    pub const fn of(size: u8, set_level: u8, clear_level: u8, decay: u8) -> BucketSet {
+        BucketSet {
+            size,
+            set_level,
+            clear_level,
+            decay,
+        }
+    }
 
     /// "with L < U ≤ S ≤ 255 and d from 0 to 3": a byte is 255 at most.
     pub fn within_bounds(&self) -> bool {

@@ -9,9 +9,8 @@ pub use fault::Fault;
 
 use crate::script::Script;
 use crate::sheet::Sheet;
-use crate::step::Step;
 use assembly::{Aim, Assembly};
-use statement::{statement, Statement};
+use statement::{names_a_call, statement};
 
 /// The sheet that the text says. A call is a fault; others are told first.
 pub fn make(text: &[u8]) -> Result<Sheet, Fault> {
@@ -21,7 +20,7 @@ pub fn make(text: &[u8]) -> Result<Sheet, Fault> {
 /// What the text says, statement by statement: a sheet, if it has no calls.
 pub fn script(text: &[u8]) -> Result<Script, Fault> {
     let text = characters(text)?;
-    let aim = match text.lines().any(is_call) {
+    let aim = match text.lines().any(names_a_call) {
         true => Aim::Host,
         false => Aim::Sheet,
     };
@@ -33,14 +32,6 @@ pub fn script(text: &[u8]) -> Result<Script, Fault> {
         assembly.take(line, statement).map_err(fault)?;
     }
     assembly.finished()
-}
-
-fn is_call(line: &str) -> bool {
-    let step = match statement(line) {
-        Ok(Statement::Steps { step, .. }) => step,
-        _ => return false,
-    };
-    matches!(step, Step::Call(_))
 }
 
 /// The text as characters, without the mark that some editors put in front.

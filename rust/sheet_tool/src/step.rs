@@ -14,12 +14,10 @@ pub enum Step {
 /// A call of the host, with document 02's arguments: those of #104.
 #[derive(Clone, Copy, Debug, PartialEq, Eq)]
 pub enum Call {
+    /// The numbers are size, set level, clear level and decay.
     SetBucket {
         set: u8,
-        size: u8,
-        set_level: u8,
-        clear_level: u8,
-        decay: u8,
+        numbers: [u8; 4],
     },
     AssignBucket {
         input: u8,
@@ -51,15 +49,15 @@ impl Step {
 }
 
 impl Call {
+    /// The words of their statements.
+    pub const WORDS: [&'static str; 2] = ["bucket", "assign"];
+
     fn give(self, unit: &mut Unit) -> u8 {
         match self {
-            Call::SetBucket {
-                set,
-                size,
-                set_level,
-                clear_level,
-                decay,
-            } => unit.set_bucket(set, size, set_level, clear_level, decay),
+            Call::SetBucket { set, numbers } => {
+                let [size, set_level, clear_level, decay] = numbers;
+                unit.set_bucket(set, size, set_level, clear_level, decay)
+            }
             Call::AssignBucket { input, set } => unit.assign_bucket(input, set),
         }
     }
@@ -67,8 +65,8 @@ impl Call {
     /// The word of its statement.
     pub fn word(self) -> &'static str {
         match self {
-            Call::SetBucket { .. } => "bucket",
-            Call::AssignBucket { .. } => "assign",
+            Call::SetBucket { .. } => Call::WORDS[0],
+            Call::AssignBucket { .. } => Call::WORDS[1],
         }
     }
 }
@@ -78,17 +76,11 @@ impl fmt::Display for Call {
     fn fmt(&self, f: &mut fmt::Formatter) -> fmt::Result {
         let word = self.word();
         match *self {
-            Call::SetBucket {
-                set,
-                size,
-                set_level,
-                clear_level,
-                decay,
-            } => write!(
-                f,
-                "{} {} {} {} {} {}",
-                word, set, size, set_level, clear_level, decay
-            ),
+            Call::SetBucket { set, numbers } => {
+                let [size, set_level, clear_level, decay] = numbers;
+                let levels = format_args!("{} {} {}", size, set_level, clear_level);
+                write!(f, "{} {} {} {}", word, set, levels, decay)
+            }
             Call::AssignBucket { input, set } => write!(f, "{} {} {}", word, input, set),
         }
     }

@@ -94,12 +94,7 @@ pub fn call_while_soaking<D: Device>(list: &mut List<D>) -> Step {
     let input = selected_or_any(list);
     let set = draw::bucket_set(&mut list.random);
     let clear_level = list.random.pick(&[0, 1, 7, 254]);
-    let quick = BucketSet {
-        size: clear_level + 1,
-        set_level: clear_level + 1,
-        clear_level,
-        decay: 0,
-    };
+    let quick = BucketSet::of(clear_level + 1, clear_level + 1, clear_level, 0);
     let slow = draw::bucket_numbers(&mut list.random);
     let numbers = list.random.pick(&[quick, quick, quick, slow]);
     list.set_bucket(set, numbers)?;

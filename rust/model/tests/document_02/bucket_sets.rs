@@ -4,15 +4,6 @@
 use crate::bench::*;
 use model::{BucketSet, Call, Unit};
 
-fn numbers(size: u8, set_level: u8, clear_level: u8, decay: u8) -> BucketSet {
-    BucketSet {
-        size,
-        set_level,
-        clear_level,
-        decay,
-    }
-}
-
 fn set_call(set: u8, numbers: BucketSet) -> Call {
     Call::SetBucket { set, numbers }
 }
@@ -67,7 +58,7 @@ fn started(unit: &Unit, level: u8) -> Vec<u8> {
 fn all_inputs_start_with_set_0_and_all_sets_alike() {
     let unit = Unit::fresh();
     assert_eq!(unit.buckets.assigned, [0; 8]);
-    assert_eq!(unit.buckets.sets, [numbers(8, 6, 4, 1); 4]);
+    assert_eq!(unit.buckets.sets, [BucketSet::of(8, 6, 4, 1); 4]);
 }
 
 /// "with L < U ≤ S ≤ 255 and d from 0 to 3"
@@ -75,25 +66,25 @@ fn all_inputs_start_with_set_0_and_all_sets_alike() {
 fn the_bounds_of_a_set() {
     let mut unit = Unit::fresh();
     for accepted in [
-        numbers(1, 1, 0, 0),
-        numbers(255, 255, 254, 3),
-        numbers(255, 1, 0, 3),
-        numbers(10, 10, 9, 2),
-        numbers(8, 6, 4, 1),
+        BucketSet::of(1, 1, 0, 0),
+        BucketSet::of(255, 255, 254, 3),
+        BucketSet::of(255, 1, 0, 3),
+        BucketSet::of(10, 10, 9, 2),
+        BucketSet::of(8, 6, 4, 1),
     ] {
         for number in 0..=3 {
             set(&mut unit, number, accepted);
         }
     }
     for refused in [
-        numbers(0, 0, 0, 0),
-        numbers(9, 10, 4, 1),
-        numbers(254, 255, 0, 0),
-        numbers(10, 6, 6, 1),
-        numbers(10, 6, 7, 1),
-        numbers(255, 255, 255, 3),
-        numbers(8, 6, 4, 4),
-        numbers(8, 6, 4, 255),
+        BucketSet::of(0, 0, 0, 0),
+        BucketSet::of(9, 10, 4, 1),
+        BucketSet::of(254, 255, 0, 0),
+        BucketSet::of(10, 6, 6, 1),
+        BucketSet::of(10, 6, 7, 1),
+        BucketSet::of(255, 255, 255, 3),
+        BucketSet::of(8, 6, 4, 4),
+        BucketSet::of(8, 6, 4, 255),
     ] {
         for number in [0, 3, 4, 255] {
             refuse_call(&mut unit, set_call(number, refused), 14);
@@ -129,7 +120,7 @@ fn the_bounds_of_an_assignment() {
 #[test]
 fn assigning_starts_the_bucket_of_its_input() {
     let mut unit = Unit::fresh();
-    set(&mut unit, 2, numbers(20, 10, 5, 3));
+    set(&mut unit, 2, BucketSet::of(20, 10, 5, 3));
     clean_ticks(&mut unit, 1);
     assert_eq!(started(&unit, 20), []);
     for _ in 0..2 {
@@ -153,14 +144,14 @@ fn setting_starts_the_buckets_of_the_inputs_with_that_set() {
     assign(&mut unit, 8, 0);
     clean_ticks(&mut unit, 3);
     let before = unit.clone();
-    set(&mut unit, 3, numbers(30, 6, 4, 1));
+    set(&mut unit, 3, BucketSet::of(30, 6, 4, 1));
     assert_eq!(started(&unit, 30), [2, 5]);
     for input in [1, 3, 4, 6, 7, 8] {
         assert_eq!(unit.input(input), before.input(input));
     }
     // A set that no input has.
     let before = unit.inputs;
-    set(&mut unit, 2, numbers(40, 6, 4, 1));
+    set(&mut unit, 2, BucketSet::of(40, 6, 4, 1));
     assert_eq!(unit.inputs, before);
 }
 
@@ -179,10 +170,10 @@ fn setting_or_assigning_as_it_was_starts_the_buckets_too() {
 /// A set of a smaller size: the level is the new size, not the old level.
 #[test]
 fn a_smaller_set_takes_the_level_with_it() {
-    let mut unit = with_set(numbers(100, 50, 20, 0));
+    let mut unit = with_set(BucketSet::of(100, 50, 20, 0));
     masked_ticks(&mut unit, 90, 0x01);
     assert_eq!(unit.input(1).level, 90);
-    set(&mut unit, 1, numbers(5, 3, 1, 0));
+    set(&mut unit, 1, BucketSet::of(5, 3, 1, 0));
     assert_eq!(started(&unit, 5), [1]);
     masked_ticks(&mut unit, 3, 0x01);
     assert_eq!(unit.input(1).level, 5);
@@ -194,8 +185,8 @@ fn a_call_changes_nothing_else() {
     let mut unit = automatic(&[1]);
     lock_ticks(&mut unit, 40, 5);
     let mut expected = unit.clone();
-    set(&mut unit, 0, numbers(20, 10, 5, 3));
-    expected.buckets.sets[0] = numbers(20, 10, 5, 3);
+    set(&mut unit, 0, BucketSet::of(20, 10, 5, 3));
+    expected.buckets.sets[0] = BucketSet::of(20, 10, 5, 3);
     for input in &mut expected.inputs {
         input.level = 20;
         input.activity_alarm = true;
@@ -211,7 +202,7 @@ fn a_call_changes_nothing_else() {
 #[test]
 fn the_level_goes_from_0_to_the_size() {
     for size in [1, 7, 9, 254, 255] {
-        let mut unit = with_set(numbers(size, 1, 0, 0));
+        let mut unit = with_set(BucketSet::of(size, 1, 0, 0));
         masked_ticks(&mut unit, u32::from(size) - 1, 0x01);
         assert_eq!(unit.input(1).level, size - 1);
         masked_ticks(&mut unit, 3, 0x01);
@@ -224,7 +215,7 @@ fn the_level_goes_from_0_to_the_size() {
 /// The alarm: set at U or more, cleared at L or less, kept between.
 #[test]
 fn the_alarm_has_the_levels_of_the_set() {
-    let mut unit = with_set(numbers(12, 10, 3, 0));
+    let mut unit = with_set(BucketSet::of(12, 10, 3, 0));
     let alarm = |unit: &Unit| (unit.input(1).level, unit.input(1).activity_alarm);
     masked_ticks(&mut unit, 9, 0x01);
     assert_eq!(alarm(&unit), (9, false));
@@ -244,7 +235,7 @@ fn the_alarm_has_the_levels_of_the_set() {
 #[test]
 fn the_level_falls_every_1_2_4_or_8_ticks() {
     for (decay, ticks) in [(0, 1), (1, 2), (2, 4), (3, 8)] {
-        let mut unit = with_set(numbers(9, 9, 8, decay));
+        let mut unit = with_set(BucketSet::of(9, 9, 8, decay));
         assign(&mut unit, 1, 1);
         for level in (0..9).rev() {
             clean_ticks(&mut unit, ticks - 1);
@@ -265,8 +256,8 @@ fn the_level_falls_every_1_2_4_or_8_ticks() {
 #[test]
 fn each_input_follows_its_own_set() {
     let mut unit = Unit::fresh();
-    set(&mut unit, 1, numbers(3, 2, 1, 0));
-    set(&mut unit, 2, numbers(200, 100, 50, 3));
+    set(&mut unit, 1, BucketSet::of(3, 2, 1, 0));
+    set(&mut unit, 2, BucketSet::of(200, 100, 50, 3));
     assign(&mut unit, 1, 1);
     assign(&mut unit, 2, 2);
     clean_ticks(&mut unit, 1_600);
@@ -285,10 +276,10 @@ fn each_input_follows_its_own_set() {
 #[test]
 fn the_soak_goes_on_where_one_clean_tick_clears_the_alarm() {
     for (set_numbers, soak) in [
-        (numbers(5, 5, 4, 0), 41),
-        (numbers(255, 255, 254, 0), 41),
-        (numbers(6, 5, 4, 0), 0),
-        (numbers(5, 5, 4, 1), 0),
+        (BucketSet::of(5, 5, 4, 0), 41),
+        (BucketSet::of(255, 255, 254, 0), 41),
+        (BucketSet::of(6, 5, 4, 0), 0),
+        (BucketSet::of(5, 5, 4, 1), 0),
     ] {
         let mut unit = Unit::fresh();
         set(&mut unit, 1, set_numbers);
@@ -300,7 +291,7 @@ fn the_soak_goes_on_where_one_clean_tick_clears_the_alarm() {
         assert_eq!(unit.input(1).soak, soak);
     }
     let mut unit = Unit::fresh();
-    set(&mut unit, 1, numbers(5, 5, 4, 0));
+    set(&mut unit, 1, BucketSet::of(5, 5, 4, 0));
     measure(&mut unit, 1, 0);
     clean_ticks(&mut unit, 40);
     assign(&mut unit, 1, 1);
@@ -314,11 +305,11 @@ fn the_soak_goes_on_where_one_clean_tick_clears_the_alarm() {
 #[test]
 fn an_input_qualifies_78_ticks_after_its_alarm_is_clear() {
     for (set_numbers, clear) in [
-        (numbers(8, 6, 4, 1), 8),
-        (numbers(255, 1, 0, 3), 2_040),
-        (numbers(255, 255, 100, 3), 1_240),
-        (numbers(200, 150, 50, 2), 600),
-        (numbers(2, 2, 1, 0), 1),
+        (BucketSet::of(8, 6, 4, 1), 8),
+        (BucketSet::of(255, 1, 0, 3), 2_040),
+        (BucketSet::of(255, 255, 100, 3), 1_240),
+        (BucketSet::of(200, 150, 50, 2), 600),
+        (BucketSet::of(2, 2, 1, 0), 1),
     ] {
         let mut unit = automatic(&[2]);
         measure(&mut unit, 1, 0);

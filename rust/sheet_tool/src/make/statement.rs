@@ -21,8 +21,7 @@ pub enum Statement {
 /// What the line says, or why it says nothing that can be understood. A `#`
 /// starts a comment.
 pub fn statement(line: &str) -> Result<Statement, String> {
-    let said = line.split('#').next().unwrap_or("");
-    let words: Vec<&str> = said.split_whitespace().collect();
+    let words: Vec<&str> = words(line).collect();
     match words[..] {
         [] => Ok(Statement::Nothing),
         ["repeat", ref rest @ ..] => {
@@ -37,6 +36,16 @@ pub fn statement(line: &str) -> Result<Statement, String> {
         }
         [word, ref rest @ ..] => repeated(1, word, rest),
     }
+}
+
+/// Whether the line has a call's word, be the statement whole or not.
+pub fn names_a_call(line: &str) -> bool {
+    words(line).any(|word| Call::WORDS.contains(&word))
+}
+
+fn words(line: &str) -> impl Iterator<Item = &str> {
+    let said = line.split('#').next().unwrap_or("");
+    said.split_whitespace()
 }
 
 fn begins_a_number(word: &str) -> bool {
@@ -100,13 +109,8 @@ fn call(word: &str, rest: &[&str]) -> Result<Call, String> {
             let numbers = [SET, SIZE, SET_LEVEL, CLEAR_LEVEL, DECAY];
             let numbers = fields(word, numbers, rest)?.map(|number| number as u8);
             let [set, size, set_level, clear_level, decay] = numbers;
-            Ok(Call::SetBucket {
-                set,
-                size,
-                set_level,
-                clear_level,
-                decay,
-            })
+            let numbers = [size, set_level, clear_level, decay];
+            Ok(Call::SetBucket { set, numbers })
         }
         "assign" => {
             let [input, set] = fields(word, [INPUT, SET], rest)?.map(|number| number as u8);

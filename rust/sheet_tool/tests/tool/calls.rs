@@ -34,10 +34,7 @@ fn the_statements() {
     let steps = host("setting control 1\nbucket 1 0x14 10 5 3\n2 x assign 255 0").steps;
     let bucket = Call::SetBucket {
         set: 1,
-        size: 20,
-        set_level: 10,
-        clear_level: 5,
-        decay: 3,
+        numbers: [20, 10, 5, 3],
     };
     let assign = Call::AssignBucket { input: 255, set: 0 };
     assert!(matches!(steps[0], Step::Event(_)));
@@ -94,6 +91,7 @@ fn limits() {
     // In a text without calls they are as they were.
     let reason = "the sheet would be over 65,535 bytes";
     check_fault("60000 x tick 0 0 0\n# assign 1 0", 1, reason);
+    check_fault("60000 x tick 0 0 0\nassign 1", 2, "assign needs SET");
 }
 
 const TITLES: &str = "first   last    from s      to s  state         selected  qualified  alarm  Ready  backup  refusal\n";
@@ -206,15 +204,10 @@ fn call(random: &mut Random) -> Call {
     let set_level = clear_level + random.below(9) as u8;
     let size = set_level.wrapping_add(random.below(9) as u8);
     let decay = random.below(5) as u8;
+    let numbers = [size, set_level, clear_level, decay];
     let input = random.below(10) as u8;
     random.pick(&[
-        Call::SetBucket {
-            set,
-            size,
-            set_level,
-            clear_level,
-            decay,
-        },
+        Call::SetBucket { set, numbers },
         Call::AssignBucket { input, set },
     ])
 }

@@ -51,19 +51,9 @@ fn given_to_the_model(unit: &mut Unit, step: Step) -> u8 {
         Step::Call(Call::AssignBucket { input, set }) => {
             unit.call(&model::Call::AssignBucket { input, set })
         }
-        Step::Call(Call::SetBucket {
-            set,
-            size,
-            set_level,
-            clear_level,
-            decay,
-        }) => {
-            let numbers = BucketSet {
-                size,
-                set_level,
-                clear_level,
-                decay,
-            };
+        Step::Call(Call::SetBucket { set, numbers }) => {
+            let [size, set_level, clear_level, decay] = numbers;
+            let numbers = BucketSet::of(size, set_level, clear_level, decay);
             unit.call(&model::Call::SetBucket { set, numbers })
         }
     }
