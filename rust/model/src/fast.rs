@@ -291,6 +291,20 @@ impl Unit {
         number_of(self.take(event))
     }
 
+    /// Takes one call: 0, or the number of its refusal.
+    pub fn call(&mut self, call: &Call) -> u8 {
+        number_of(self.change_buckets(call))
+    }
+
+    fn change_buckets(&mut self, call: &Call) -> Result<(), Refusal> {
+        let (buckets, concerned) = self.sets.buckets.called(call)?;
+        for input in concerned {
+            self.monitors.start_bucket(input, buckets.of(input).size);
+        }
+        self.sets = Sets::of(buckets);
+        Ok(())
+    }
+
     fn take(&mut self, event: &Event) -> Result<(), Refusal> {
         match *event {
             Event::Tick { sample, .. } if !SAMPLES.contains(&sample) => {
@@ -431,22 +445,6 @@ impl Unit {
             _ => {}
         }
         self.settings = settings;
-        Ok(())
-    }
-}
-
-impl Unit {
-    /// Takes one call: 0, or the number of its refusal.
-    pub fn call(&mut self, call: &Call) -> u8 {
-        number_of(self.change_buckets(call))
-    }
-
-    fn change_buckets(&mut self, call: &Call) -> Result<(), Refusal> {
-        let (buckets, concerned) = self.sets.buckets.called(call)?;
-        for input in concerned {
-            self.monitors.start_bucket(input, buckets.of(input).size);
-        }
-        self.sets = Sets::of(buckets);
         Ok(())
     }
 }

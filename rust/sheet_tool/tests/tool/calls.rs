@@ -197,6 +197,16 @@ fn calls_in_random_texts() {
     }
 }
 
+/// A call is written as the statement that it comes from.
+#[test]
+fn a_call_and_its_statement() {
+    let mut random = Random::new(9);
+    for _ in 0..200 {
+        let call = call(&mut random);
+        assert_eq!(host(&call.to_string()).steps, [Step::Call(call)]);
+    }
+}
+
 /// A call, most often one that is accepted.
 fn call(random: &mut Random) -> Call {
     let set = random.below(5) as u8;
