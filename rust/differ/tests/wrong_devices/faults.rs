@@ -69,18 +69,21 @@ fn read_but(unit: &Unit, address: u8, wrong: u8, answer: impl Fn(u8) -> u8) -> (
 
 /// Takes the event rightly, then alters the state after an accepted one.
 pub fn then(unit: &mut Unit, fields: Fields, alter: impl Fn(&Unit, &mut Unit)) -> u8 {
-    let before = unit.clone();
-    let refusal = right_event(unit, fields);
-    if refusal == 0 {
-        alter(&before, unit);
-    }
-    refusal
+    alter_after(unit, |unit| right_event(unit, fields), alter)
 }
 
 /// As `then`, for a call.
 pub fn then_after_call(unit: &mut Unit, call: Call, alter: impl Fn(&Unit, &mut Unit)) -> u8 {
+    alter_after(unit, |unit| right_call(unit, call), alter)
+}
+
+fn alter_after(
+    unit: &mut Unit,
+    take: impl Fn(&mut Unit) -> u8,
+    alter: impl Fn(&Unit, &mut Unit),
+) -> u8 {
     let before = unit.clone();
-    let refusal = right_call(unit, call);
+    let refusal = take(unit);
     if refusal == 0 {
         alter(&before, unit);
     }
