@@ -40,7 +40,7 @@ struct unit_buckets {
     uint16_t size[4];        /* the largest level */
     uint16_t set_level[4];   /* the alarm is set at this level or more */
     uint16_t clear_level[4]; /* it is cleared at this level or less */
-    uint16_t decay_ticks[4]; /* the level falls by 1 in so many clean ticks: 1, 2, 4 or 8 */
+    uint16_t decay_last[4];  /* the last decay count: the clean tick after it takes 1 off the level; 0, 1, 3 or 7 */
     uint16_t assigned[8];    /* an input's set, 0 to 3 */
 };
 
@@ -111,7 +111,7 @@ CONTROLLER_ASSERT(offsetof(struct unit_monitors, soak) == 80, "offset of soak");
 CONTROLLER_ASSERT(offsetof(struct unit_buckets, size) == 0, "offset of size");
 CONTROLLER_ASSERT(offsetof(struct unit_buckets, set_level) == 8, "offset of set_level");
 CONTROLLER_ASSERT(offsetof(struct unit_buckets, clear_level) == 16, "offset of clear_level");
-CONTROLLER_ASSERT(offsetof(struct unit_buckets, decay_ticks) == 24, "offset of decay_ticks");
+CONTROLLER_ASSERT(offsetof(struct unit_buckets, decay_last) == 24, "offset of decay_last");
 CONTROLLER_ASSERT(offsetof(struct unit_buckets, assigned) == 32, "offset of assigned");
 CONTROLLER_ASSERT(offsetof(struct unit_tally, open) == 0, "offset of open");
 CONTROLLER_ASSERT(offsetof(struct unit_tally, filled) == 8, "offset of filled");

@@ -23,14 +23,15 @@ pub struct Monitors {
     pub soak: [u16; 8],
 }
 
-/// The numbers of the four bucket sets, and the set 0 to 3 that each input has.
+/// The numbers of the four bucket sets, of the decay the last count before the
+/// level falls; and the set 0 to 3 that each input has.
 #[repr(C)]
 #[derive(Clone, Copy, Debug, PartialEq, Eq)]
 pub struct Buckets {
     pub size: [u16; 4],
     pub set_level: [u16; 4],
     pub clear_level: [u16; 4],
-    pub decay_ticks: [u16; 4],
+    pub decay_last: [u16; 4],
     pub assigned: [u16; 8],
 }
 

@@ -23,7 +23,7 @@ fn the_fields_lie_where_the_interface_says() {
         ("size", offset(&unit, &buckets.size), 96),
         ("set_level", offset(&unit, &buckets.set_level), 104),
         ("clear_level", offset(&unit, &buckets.clear_level), 112),
-        ("decay_ticks", offset(&unit, &buckets.decay_ticks), 120),
+        ("decay_last", offset(&unit, &buckets.decay_last), 120),
         ("assigned", offset(&unit, &buckets.assigned), 128),
         ("open", offset(&unit, &tally.open), 144),
         ("filled", offset(&unit, &tally.filled), 152),
@@ -72,7 +72,7 @@ fn the_library_takes_bucket_sets() {
     let buckets = &unit.buckets;
     let numbers = (buckets.size, buckets.set_level, buckets.clear_level);
     assert_eq!(numbers, ([8; 4], [6; 4], [4; 4]));
-    assert_eq!((buckets.decay_ticks, buckets.assigned), ([2; 4], [0; 8]));
+    assert_eq!((buckets.decay_last, buckets.assigned), ([1; 4], [0; 8]));
     assert_eq!(unit.set_bucket(3, 20, 10, 5, 3), 0);
     let buckets = &unit.buckets;
     let set = (
@@ -80,7 +80,7 @@ fn the_library_takes_bucket_sets() {
         buckets.set_level[3],
         buckets.clear_level[3],
     );
-    assert_eq!((set, buckets.decay_ticks[3]), ((20, 10, 5), 8));
+    assert_eq!((set, buckets.decay_last[3]), ((20, 10, 5), 7));
     assert_eq!(unit.assign_bucket(8, 3), 0);
     assert_eq!(unit.buckets.assigned, [0, 0, 0, 0, 0, 0, 0, 3]);
     let monitors = &unit.monitors;

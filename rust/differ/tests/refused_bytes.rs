@@ -53,7 +53,7 @@ fn places_of_fields(unit: &Unit) -> Vec<Range<usize>> {
         size,
         set_level,
         clear_level,
-        decay_ticks,
+        decay_last,
         assigned,
     } = buckets;
     let History {
@@ -81,7 +81,7 @@ fn places_of_fields(unit: &Unit) -> Vec<Range<usize>> {
     let mut places = Vec::new();
     let rows = [level, decay, active, frequency, remainder, soak, assigned];
     places.extend(rows.map(|row| place(unit, row)));
-    let sets = [size, set_level, clear_level, decay_ticks];
+    let sets = [size, set_level, clear_level, decay_last];
     places.extend(sets.map(|row| place(unit, row)));
     places.extend([sums, building, backup].map(|sums| place(unit, sums)));
     let numbers = [filled, unlock, mode, lock];

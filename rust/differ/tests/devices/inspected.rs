@@ -53,7 +53,7 @@ impl Inspected {
         stored.size == row(|set| set.size)
             && stored.set_level == row(|set| set.set_level)
             && stored.clear_level == row(|set| set.clear_level)
-            && stored.decay_ticks == row(BucketSet::decay_ticks)
+            && stored.decay_last == row(|set| set.decay_ticks() - 1)
             && stored.assigned == buckets.assigned.map(u16::from)
     }
 
