@@ -35,13 +35,18 @@ struct unit_monitors {
     uint16_t soak[8];      /* good ticks, 79 at most */
 };
 
-/* The activity buckets' four sets, a row for each number: place n is set n. And the set that each input has: place i - 1 is input i. */
+/* A set of an activity bucket's numbers: one word of four bytes. */
+struct unit_set {
+    uint8_t size;        /* the largest level */
+    uint8_t set_level;   /* the alarm is set at this level or more */
+    uint8_t clear_level; /* it is cleared at this level or less */
+    uint8_t decay_last;  /* the last decay count: the clean tick after it takes 1 off the level; 0, 1, 3 or 7 */
+};
+
+/* The four sets: place n is set n. And the set that each input has: place i - 1 is input i. */
 struct unit_buckets {
-    uint16_t size[4];        /* the largest level */
-    uint16_t set_level[4];   /* the alarm is set at this level or more */
-    uint16_t clear_level[4]; /* it is cleared at this level or less */
-    uint16_t decay_last[4];  /* the last decay count: the clean tick after it takes 1 off the level; 0, 1, 3 or 7 */
-    uint16_t assigned[8];    /* an input's set, 0 to 3 */
+    struct unit_set sets[4];
+    uint16_t assigned[8]; /* an input's set, 0 to 3 */
 };
 
 /* The history's open block and counts. */
@@ -94,12 +99,13 @@ struct unit {
 };
 
 CONTROLLER_ASSERT(sizeof(struct unit_monitors) == 96, "size of unit_monitors");
-CONTROLLER_ASSERT(sizeof(struct unit_buckets) == 48, "size of unit_buckets");
+CONTROLLER_ASSERT(sizeof(struct unit_set) == 4, "size of unit_set");
+CONTROLLER_ASSERT(sizeof(struct unit_buckets) == 32, "size of unit_buckets");
 CONTROLLER_ASSERT(sizeof(struct unit_tally) == 16, "size of unit_tally");
 CONTROLLER_ASSERT(sizeof(struct unit_history) == 1552, "size of unit_history");
 CONTROLLER_ASSERT(sizeof(struct unit_choice) == 16, "size of unit_choice");
 CONTROLLER_ASSERT(sizeof(struct unit_loop) == 6, "size of unit_loop");
-CONTROLLER_ASSERT(sizeof(struct unit) == 1752, "size of unit");
+CONTROLLER_ASSERT(sizeof(struct unit) == 1736, "size of unit");
 CONTROLLER_ASSERT(CONTROLLER_ALIGN(struct unit) == 8, "alignment of unit");
 
 CONTROLLER_ASSERT(offsetof(struct unit_monitors, level) == 0, "offset of level");
@@ -108,11 +114,12 @@ CONTROLLER_ASSERT(offsetof(struct unit_monitors, active) == 32, "offset of activ
 CONTROLLER_ASSERT(offsetof(struct unit_monitors, frequency) == 48, "offset of frequency");
 CONTROLLER_ASSERT(offsetof(struct unit_monitors, remainder) == 64, "offset of remainder");
 CONTROLLER_ASSERT(offsetof(struct unit_monitors, soak) == 80, "offset of soak");
-CONTROLLER_ASSERT(offsetof(struct unit_buckets, size) == 0, "offset of size");
-CONTROLLER_ASSERT(offsetof(struct unit_buckets, set_level) == 8, "offset of set_level");
-CONTROLLER_ASSERT(offsetof(struct unit_buckets, clear_level) == 16, "offset of clear_level");
-CONTROLLER_ASSERT(offsetof(struct unit_buckets, decay_last) == 24, "offset of decay_last");
-CONTROLLER_ASSERT(offsetof(struct unit_buckets, assigned) == 32, "offset of assigned");
+CONTROLLER_ASSERT(offsetof(struct unit_set, size) == 0, "offset of size");
+CONTROLLER_ASSERT(offsetof(struct unit_set, set_level) == 1, "offset of set_level");
+CONTROLLER_ASSERT(offsetof(struct unit_set, clear_level) == 2, "offset of clear_level");
+CONTROLLER_ASSERT(offsetof(struct unit_set, decay_last) == 3, "offset of decay_last");
+CONTROLLER_ASSERT(offsetof(struct unit_buckets, sets) == 0, "offset of sets");
+CONTROLLER_ASSERT(offsetof(struct unit_buckets, assigned) == 16, "offset of assigned");
 CONTROLLER_ASSERT(offsetof(struct unit_tally, open) == 0, "offset of open");
 CONTROLLER_ASSERT(offsetof(struct unit_tally, filled) == 8, "offset of filled");
 CONTROLLER_ASSERT(offsetof(struct unit_tally, count) == 10, "offset of count");
@@ -133,11 +140,11 @@ CONTROLLER_ASSERT(offsetof(struct unit_loop, mode) == 2, "offset of mode");
 CONTROLLER_ASSERT(offsetof(struct unit_loop, lock) == 4, "offset of lock");
 CONTROLLER_ASSERT(offsetof(struct unit, monitors) == 0, "offset of monitors");
 CONTROLLER_ASSERT(offsetof(struct unit, buckets) == 96, "offset of buckets");
-CONTROLLER_ASSERT(offsetof(struct unit, history) == 144, "offset of history");
-CONTROLLER_ASSERT(offsetof(struct unit, choice) == 1696, "offset of choice");
-CONTROLLER_ASSERT(offsetof(struct unit, holding) == 1712, "offset of holding");
-CONTROLLER_ASSERT(offsetof(struct unit, pll) == 1716, "offset of pll");
-CONTROLLER_ASSERT(offsetof(struct unit, regs) == 1722, "offset of regs");
+CONTROLLER_ASSERT(offsetof(struct unit, history) == 128, "offset of history");
+CONTROLLER_ASSERT(offsetof(struct unit, choice) == 1680, "offset of choice");
+CONTROLLER_ASSERT(offsetof(struct unit, holding) == 1696, "offset of holding");
+CONTROLLER_ASSERT(offsetof(struct unit, pll) == 1700, "offset of pll");
+CONTROLLER_ASSERT(offsetof(struct unit, regs) == 1706, "offset of regs");
 
 /* A fresh unit. */
 struct unit unit_fresh(void);

@@ -23,15 +23,22 @@ pub struct Monitors {
     pub soak: [u16; 8],
 }
 
-/// The numbers of the four bucket sets, of the decay the last count before the
-/// level falls; and the set 0 to 3 that each input has.
+/// The numbers of a bucket set, one word of four bytes; of the decay it is the
+/// last count before the level falls.
+#[repr(C)]
+#[derive(Clone, Copy, Debug, PartialEq, Eq)]
+pub struct Set {
+    pub size: u8,
+    pub set_level: u8,
+    pub clear_level: u8,
+    pub decay_last: u8,
+}
+
+/// The four bucket sets, and the set 0 to 3 that each input has.
 #[repr(C)]
 #[derive(Clone, Copy, Debug, PartialEq, Eq)]
 pub struct Buckets {
-    pub size: [u16; 4],
-    pub set_level: [u16; 4],
-    pub clear_level: [u16; 4],
-    pub decay_last: [u16; 4],
+    pub sets: [Set; 4],
     pub assigned: [u16; 8],
 }
 
@@ -99,12 +106,13 @@ const fn laid_out<T>(size: usize, align: usize) -> bool {
 
 const _: () = {
     assert!(laid_out::<Monitors>(96, 2));
-    assert!(laid_out::<Buckets>(48, 2));
+    assert!(laid_out::<Set>(4, 1));
+    assert!(laid_out::<Buckets>(32, 2));
     assert!(laid_out::<Tally>(16, 8));
     assert!(laid_out::<History>(1552, 8));
     assert!(laid_out::<Choice>(16, 8));
     assert!(laid_out::<Loop>(6, 2));
-    assert!(laid_out::<Unit>(1752, 8));
+    assert!(laid_out::<Unit>(1736, 8));
 };
 
 extern "C" {

@@ -1,7 +1,7 @@
 //! The places of the fields in the structs that the library shares, and a
 //! first word with the library.
 
-use controller::Unit;
+use controller::{Set, Unit};
 
 /// The distance of a part of the unit from its beginning.
 fn offset<T>(unit: &Unit, part: &T) -> usize {
@@ -20,30 +20,30 @@ fn the_fields_lie_where_the_interface_says() {
         ("frequency", offset(&unit, &monitors.frequency), 48),
         ("remainder", offset(&unit, &monitors.remainder), 64),
         ("soak", offset(&unit, &monitors.soak), 80),
-        ("size", offset(&unit, &buckets.size), 96),
-        ("set_level", offset(&unit, &buckets.set_level), 104),
-        ("clear_level", offset(&unit, &buckets.clear_level), 112),
-        ("decay_last", offset(&unit, &buckets.decay_last), 120),
-        ("assigned", offset(&unit, &buckets.assigned), 128),
-        ("open", offset(&unit, &tally.open), 144),
-        ("filled", offset(&unit, &tally.filled), 152),
-        ("count", offset(&unit, &tally.count), 154),
-        ("built", offset(&unit, &tally.built), 155),
-        ("backed", offset(&unit, &tally.backed), 156),
-        ("builds", offset(&unit, &tally.builds), 157),
-        ("last", offset(&unit, &tally.last), 158),
-        ("command", offset(&unit, &tally.command), 159),
-        ("sums", offset(&unit, &history.sums), 160),
-        ("building", offset(&unit, &history.building), 672),
-        ("backup", offset(&unit, &history.backup), 1184),
-        ("wait", offset(&unit, &unit.choice.wait), 1696),
-        ("selected", offset(&unit, &unit.choice.selected), 1704),
-        ("aim", offset(&unit, &unit.choice.aim), 1705),
-        ("holding", offset(&unit, &unit.holding), 1712),
-        ("unlock", offset(&unit, &unit.pll.unlock), 1716),
-        ("mode", offset(&unit, &unit.pll.mode), 1718),
-        ("lock", offset(&unit, &unit.pll.lock), 1720),
-        ("regs", offset(&unit, &unit.regs), 1722),
+        ("size", offset(&unit, &buckets.sets[0].size), 96),
+        ("set_level", offset(&unit, &buckets.sets[0].set_level), 97),
+        ("clear_level", offset(&unit, &buckets.sets[0].clear_level), 98),
+        ("decay_last", offset(&unit, &buckets.sets[0].decay_last), 99),
+        ("assigned", offset(&unit, &buckets.assigned), 112),
+        ("open", offset(&unit, &tally.open), 128),
+        ("filled", offset(&unit, &tally.filled), 136),
+        ("count", offset(&unit, &tally.count), 138),
+        ("built", offset(&unit, &tally.built), 139),
+        ("backed", offset(&unit, &tally.backed), 140),
+        ("builds", offset(&unit, &tally.builds), 141),
+        ("last", offset(&unit, &tally.last), 142),
+        ("command", offset(&unit, &tally.command), 143),
+        ("sums", offset(&unit, &history.sums), 144),
+        ("building", offset(&unit, &history.building), 656),
+        ("backup", offset(&unit, &history.backup), 1168),
+        ("wait", offset(&unit, &unit.choice.wait), 1680),
+        ("selected", offset(&unit, &unit.choice.selected), 1688),
+        ("aim", offset(&unit, &unit.choice.aim), 1689),
+        ("holding", offset(&unit, &unit.holding), 1696),
+        ("unlock", offset(&unit, &unit.pll.unlock), 1700),
+        ("mode", offset(&unit, &unit.pll.mode), 1702),
+        ("lock", offset(&unit, &unit.pll.lock), 1704),
+        ("regs", offset(&unit, &unit.regs), 1706),
     ];
     for (name, found, expected) in places {
         assert_eq!(found, expected, "{}", name);
@@ -69,18 +69,22 @@ fn the_library_answers() {
 #[test]
 fn the_library_takes_bucket_sets() {
     let mut unit = Unit::fresh();
-    let buckets = &unit.buckets;
-    let numbers = (buckets.size, buckets.set_level, buckets.clear_level);
-    assert_eq!(numbers, ([8; 4], [6; 4], [4; 4]));
-    assert_eq!((buckets.decay_last, buckets.assigned), ([1; 4], [0; 8]));
+    let fresh = Set {
+        size: 8,
+        set_level: 6,
+        clear_level: 4,
+        decay_last: 1,
+    };
+    assert_eq!(unit.buckets.sets, [fresh; 4]);
+    assert_eq!(unit.buckets.assigned, [0; 8]);
     assert_eq!(unit.set_bucket(3, 20, 10, 5, 3), 0);
-    let buckets = &unit.buckets;
-    let set = (
-        buckets.size[3],
-        buckets.set_level[3],
-        buckets.clear_level[3],
-    );
-    assert_eq!((set, buckets.decay_last[3]), ((20, 10, 5), 7));
+    let other = Set {
+        size: 20,
+        set_level: 10,
+        clear_level: 5,
+        decay_last: 7,
+    };
+    assert_eq!(unit.buckets.sets, [fresh, fresh, fresh, other]);
     assert_eq!(unit.assign_bucket(8, 3), 0);
     assert_eq!(unit.buckets.assigned, [0, 0, 0, 0, 0, 0, 0, 3]);
     let monitors = &unit.monitors;

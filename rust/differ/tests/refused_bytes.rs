@@ -6,7 +6,7 @@
 #[path = "devices/held.rs"]
 mod held;
 
-use controller::{Buckets, Choice, History, Loop, Monitors, Tally, Unit};
+use controller::{Buckets, Choice, History, Loop, Monitors, Set, Tally, Unit};
 use differ::coverage::Coverage;
 use differ::fields::Fields;
 use differ::run::{names, run_lists};
@@ -49,13 +49,7 @@ fn places_of_fields(unit: &Unit) -> Vec<Range<usize>> {
         remainder,
         soak,
     } = monitors;
-    let Buckets {
-        size,
-        set_level,
-        clear_level,
-        decay_last,
-        assigned,
-    } = buckets;
+    let Buckets { sets, assigned } = buckets;
     let History {
         tally,
         sums,
@@ -81,8 +75,16 @@ fn places_of_fields(unit: &Unit) -> Vec<Range<usize>> {
     let mut places = Vec::new();
     let rows = [level, decay, active, frequency, remainder, soak, assigned];
     places.extend(rows.map(|row| place(unit, row)));
-    let sets = [size, set_level, clear_level, decay_last];
-    places.extend(sets.map(|row| place(unit, row)));
+    for set in sets {
+        let Set {
+            size,
+            set_level,
+            clear_level,
+            decay_last,
+        } = set;
+        let numbers = [size, set_level, clear_level, decay_last];
+        places.extend(numbers.map(|byte| place(unit, byte)));
+    }
     places.extend([sums, building, backup].map(|sums| place(unit, sums)));
     let numbers = [filled, unlock, mode, lock];
     places.extend(numbers.map(|number| place(unit, number)));

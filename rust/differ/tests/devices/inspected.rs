@@ -2,6 +2,7 @@
 //! the model's.
 
 use differ::device::Device;
+use controller::Set;
 use model::{Blocks, BucketSet, Call};
 
 /// The controller with a model beside it. An event or call after which their
@@ -49,11 +50,13 @@ impl Inspected {
 
     fn buckets_agree(&self) -> bool {
         let (stored, buckets) = (&self.controller.buckets, &self.model.buckets);
-        let row = |number: fn(&BucketSet) -> u8| buckets.sets.map(|set| u16::from(number(&set)));
-        stored.size == row(|set| set.size)
-            && stored.set_level == row(|set| set.set_level)
-            && stored.clear_level == row(|set| set.clear_level)
-            && stored.decay_last == row(|set| set.decay_ticks() - 1)
+        let kept = |set: BucketSet| Set {
+            size: set.size,
+            set_level: set.set_level,
+            clear_level: set.clear_level,
+            decay_last: set.decay_ticks() - 1,
+        };
+        stored.sets == buckets.sets.map(kept)
             && stored.assigned == buckets.assigned.map(u16::from)
     }
 
