@@ -22,7 +22,11 @@ fn the_fields_lie_where_the_interface_says() {
         ("soak", offset(&unit, &monitors.soak), 80),
         ("size", offset(&unit, &buckets.sets[0].size), 96),
         ("set_level", offset(&unit, &buckets.sets[0].set_level), 97),
-        ("clear_level", offset(&unit, &buckets.sets[0].clear_level), 98),
+        (
+            "clear_level",
+            offset(&unit, &buckets.sets[0].clear_level),
+            98,
+        ),
         ("decay_last", offset(&unit, &buckets.sets[0].decay_last), 99),
         ("assigned", offset(&unit, &buckets.assigned), 112),
         ("open", offset(&unit, &tally.open), 128),

@@ -10,7 +10,7 @@ use std::mem::size_of;
 
 pub const SIZE: usize = size_of::<Unit>();
 /// The places of the bytes that are in no field.
-pub const PADDING: [usize; 9] = [1706, 1707, 1708, 1709, 1710, 1711, 1749, 1750, 1751];
+pub const PADDING: [usize; 9] = [1690, 1691, 1692, 1693, 1694, 1695, 1733, 1734, 1735];
 
 extern "C" {
     fn unit_event(unit: *mut u8, kind: u8, a: u8, b: u8, word: i32) -> u8;

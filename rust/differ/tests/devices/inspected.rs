@@ -1,8 +1,8 @@
 //! The controller and the fields of the state that it shares with its host, beside
 //! the model's.
 
-use differ::device::Device;
 use controller::Set;
+use differ::device::Device;
 use model::{Blocks, BucketSet, Call};
 
 /// The controller with a model beside it. An event or call after which their
@@ -56,8 +56,7 @@ impl Inspected {
             clear_level: set.clear_level,
             decay_last: set.decay_ticks() - 1,
         };
-        stored.sets == buckets.sets.map(kept)
-            && stored.assigned == buckets.assigned.map(u16::from)
+        stored.sets == buckets.sets.map(kept) && stored.assigned == buckets.assigned.map(u16::from)
     }
 
     fn history_agrees(&self) -> bool {
