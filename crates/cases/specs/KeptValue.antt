@@ -24,6 +24,7 @@ abbrev nearlyReady : State
 nearlyReady =
     record {
       inputs = good ∷ good ∷ replicate 6 (record { activity = good .activity; frequency = true; remainder = 0; soak = 0 });
+      buckets = fresh .buckets;
       settings = written 0x40 1 (fresh .settings);
       loop = record { mode = locked; lockRun = lockTicks; unlockRun = 0 };
       choice = settled 1;
