@@ -27,8 +27,8 @@ TurnedDown s e = accepted s e ≡ false
 
 -- What is asked of one event; s is the state in which it begins. No accepted tick is irregular for r ("its mask has r's bit set"), and while r is selected
 -- ("selected is r when the event begins") it reports lock. No measurement of r is in magnitude above the qualification limit. No Hit comes while r is
--- selected. No write is accepted; #104: "setting or assigning counts as a write". "Anything may stand in the other mask bits, the other inputs' measurements and the samples, and, while r is not
--- selected, in the lock flags; Hits may come then."
+-- selected. No write is accepted; #104: "setting or assigning counts as a write". "Anything may stand in the other mask bits, the other inputs' measurements
+-- and the samples, and, while r is not selected, in the lock flags; Hits may come then."
 abbrev pub Fair : ℕ → State → Event → Type 0
 Fair r s (tick mask lock x) = accepted s (tick mask lock x) ≡ true → (bitOf mask r ≡ false) × (selected s ≡ r → lock ≡ true)
 Fair r s (measurement i offset) = i ≡ r → natAbs offset ≤ qualification (s .settings)

@@ -217,8 +217,8 @@ fn on_write(
 
 // ---- an event
 
-// The rule `outcome`, with every array of the state lent but those of the sets, and beside them the numbers of each input's set and the keys of the registers. A write takes a copy of the core and its answer is
-// copied: lent to that call, the core would lie in memory at each tick.
+// The rule `outcome`, with every array of the state lent but those of the sets, and beside them the numbers of each input's set and the keys of the
+// registers. A write takes a copy of the core and its answer is copied: lent to that call, the core would lie in memory at each tick.
 pub fn step(
     e: Event,
     k: Core,
