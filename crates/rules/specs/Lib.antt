@@ -1,6 +1,7 @@
--- The documents as definitions, in reading order: Events to Printout are document 01's sections or parts of them, over the words of Words; History has #102 of
--- document 02 in it, and Pages is #101. OldHistory has the history's rules before #102, for the comparison alone. From Table on stand statements about the rules:
--- the traps avoided, the laws, the promise of service, the comparison, the promise in the records of a sheet, and the laws of the pages.
+-- The documents as definitions, in reading order: Events to Printout are document 01's sections or parts of them, over the words of Words. Of document 02,
+-- Buckets is #104, whose calls are among Events, History has #102 in it, and Pages is #101. OldHistory has the history's rules before #102, for the
+-- comparison alone. From Table on stand statements about the rules: the traps avoided, the laws, the promise of service, the comparison, the promise in the
+-- records of a sheet, and the laws of the pages.
 pub mod Words
 pub mod Events
 pub mod Monitors

@@ -305,7 +305,7 @@ pub fn write(
 
 // ---- the unit
 
-// The whole state: the inputs' rows, the history, the choice, the ticks in Holdover, the PLL, and the registers.
+// The whole state: the inputs' rows and the sets of bucket numbers, the history, the choice, the ticks in Holdover, the PLL, and the registers.
 #[repr(C)]
 pub struct Unit {
     pub monitors: Monitors,
