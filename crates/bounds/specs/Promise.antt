@@ -13,7 +13,7 @@ use Rattle.rules.specs.State.{State, selected, Ready}
 use Rattle.rules.specs.Registers.{fresh}
 use Rattle.rules.specs.Run.{run}
 use Rattle.rules.specs.Service.{Provisos, selectedTicks, readyTicks, acceptedTicks, Served}
-use Rattle.rules.specs.Table.{Row, _is_, Holds}
+use Rattle.rules.specs.Table.{_is_, Holds}
 
 -- ---- the two histories
 
@@ -29,7 +29,7 @@ unfoldable pub alarmed : List Event
 unfolding unlocked
 alarmed = settings ++ unlocked (79 + 782)
 
--- 79 ticks qualify both, and 1 is selected; then set 1 is set to 255, 1, 0, 3, and 1 is assigned to it.
+-- 79 ticks qualify both, and 1 is selected; then set 1 is set to 255, 1, 0, 3, and input 1 is assigned it.
 unfoldable pub refilled : List Event
 unfolding unlocked
 refilled = settings ++ (unlocked 79 ++ (setBucket 1 255 1 0 3 ∷ assignBucket 1 1 ∷ []))

@@ -17,8 +17,8 @@ use arith::one_to_eight;
 use arith::wide16;
 
 // The sets, set 0 first, each in one word: from its lowest byte up the size, the set level, the clear level, and the last decay count. And the set of each
-// input, input 1 first: of its number the two lowest bits count. Words of four bytes, since eight of them are fetched at each event and taken apart side by
-// side.
+// input, input 1 first: of its number the two lowest bits count. Words of four bytes, since eight of them are fetched at each event of a host and taken apart
+// side by side.
 #[repr(C)]
 pub struct Buckets {
     pub sets: [u32; 4],

@@ -7,7 +7,8 @@ use Rattle.rules.specs.Words.{if_then_else_}
 abbrev pub weight : ℕ → ℕ → ℕ
 weight mask k = mask / 2 ^ k % 2 * 2 ^ (k + 8)
 
--- the decay count after a tick, by the weight of the input's bit: the rule `decayAfter` has it of every weight (`decay-rule` in proofs/Rows)
+-- the decay count after a tick, by the weight of the input's bit: the rule `decayAfter` has it of the weight of a mask's bit (`decay-rule`
+-- in proofs/Rows)
 unfoldable pub decayNumber : ℕ → ℕ → ℕ → ℕ
 decayNumber last w decay = if ltb (max w decay) (last % 256) then decay + 1 else 0
 

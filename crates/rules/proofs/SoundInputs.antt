@@ -13,7 +13,7 @@ use Rattle.rules.specs.Buckets.{Buckets, setAt, setOf, bucketOf, withSet
 use Rattle.rules.specs.State.{State, selected}
 use Rattle.rules.specs.Tick.{watched, watchedAfter, loopAfter, inputsAfter}
 use Rattle.rules.specs.Laws.{SoundBucket, SoundBuckets, SoundInput, SoundInputs}
-use Rattle.rules.proofs.Tests.{if-case, by-test, and-left, low, high}
+use Rattle.rules.proofs.Tests.{if-case, and-left, low, high}
 use Rattle.rules.proofs.EightInputs.{length-each, length-altered, input-each, kept-by-altered}
 use Rattle.rules.proofs.OneInput.{Working, works, sound-monitored, sound-alarmed, sound-at-size}
 use Rattle.rules.proofs.SoundBuckets.{bucket-works, set-same, set-other, assigned-same, assigned-other}

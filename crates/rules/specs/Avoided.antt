@@ -150,6 +150,7 @@ table =
     -- a level above S after a smaller set; set 0's numbers for all; a decay of d ticks
     ∷ activityOf 1 (run fresh (setBucket 0 255 1 0 3 ∷ setBucket 0 8 6 4 1 ∷ [])) is full 8
     ∷ activityOf 2 (run fresh (setBucket 1 9 6 4 0 ∷ assignBucket 2 1 ∷ tick 0 true (pos 0) ∷ [])) .level is 8
+    ∷ activityOf 2 (run fresh (setBucket 1 9 6 4 3 ∷ assignBucket 2 1 ∷ replicate 7 (tick 0 true (pos 0)))) .level is 9
     -- a soak that a call interrupts by itself: with S = L + 1 and d = 0 a clean tick clears the alarm at once
     ∷ soakOver 1 is 79
     ∷ soakOver 2 is 0

@@ -103,7 +103,7 @@ Promise =
     → Provisos r (run fresh before) (after ++ later)
     → Served (selectedTicks r (run fresh before)) (readyTicks r (run fresh before)) r (run fresh before) after (run fresh (before ++ (after ++ later)))
 
--- The same in the customer's figures: "n is the least whole number with 4n at least 1,875 times the reversion delay in minutes." #104: r's set at the moment
+-- The same in figures: "n is the least whole number with 4n at least 1,875 times the reversion delay in minutes." #104: r's set at the moment
 -- is S, U, L, d, and "78 + the larger of 782 and (S − L) times 2^d" stands "for its 860, with 5,519 more to Ready".
 abbrev pub PromiseInFigures : Type 0
 PromiseInFigures =

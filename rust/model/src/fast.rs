@@ -27,7 +27,7 @@ const REFERENCES: RangeInclusive<u8> = 1..=8;
 
 /// One number for each input, an alarm 1 if set: of one width, and without
 /// branches, so that the machine can take all eight at once. Signed, since it
-/// compares such numbers in one step; none is below 0.
+/// compares such numbers in one step; none of an input's is below 0.
 pub type Lanes = [i16; 8];
 
 const SOAKED: i16 = SOAK_TICKS as i16;

@@ -1,6 +1,6 @@
 -- A count below the last one is not stopped there.
 use Prim.Native.Nat.{ℕ, _+_, _%_, min, max}
-use mathlib.Core.Path.{_≡_, ap, _∙_}
+use mathlib.Core.Path.{_≡_, _∙_}
 use native.Mathlib.Omega.{arith}
 use lib.Dec.{ltb}
 use borrow.Author.Tests.{ltb-true}
