@@ -11,11 +11,11 @@ use Rattle.rules.specs.Registers.{place, settingsFrom}
 use Rattle.rules.proofs.Tests.{if-case, low, high}
 
 -- the address at a place
-abbrev addressAt : ℕ → ℕ
+abbrev pub addressAt : ℕ → ℕ
 addressAt k = if ltb k 12 then k + 0x1c else k + 0x34
 
 -- the address at the place of an address in the map is that address
-address-place : (a : ℕ) → place a < 27 → addressAt (place a) ≡ a
+pub address-place : (a : ℕ) → place a < 27 → addressAt (place a) ≡ a
 unfolding place
 address-place a =
     if-case (λ k. k < 27 → addressAt k ≡ a) (between 0x1c 0x27 a)

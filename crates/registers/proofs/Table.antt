@@ -4,7 +4,7 @@ use mathlib.Core.Path.{_≡_, refl, ap, sym, _∙_}
 use mathlib.Core.List.{List, [], _∷_, _++_, map}
 use native.Mathlib.Numerals.{add-one}
 use native.Mathlib.Omega.{arith}
-use lib.ListN.{length, getD, set, take, List·getD-map, List·getD-eq-default}
+use lib.ListN.{length, getD, set, take, List·getD-map}
 use lib.Seq.{take-suc, take-suc-set, take-all}
 use Rattle.rules.specs.Registers as rules
 use Rattle.registers.specs.declared.Register as code
@@ -18,14 +18,9 @@ any-default (x ∷ l) (suc k) d e h = any-default l k d e (omega arith)
 
 module _ (table : List code.Register) (d : code.Register) (same : table ≡ map row rules.registers) where
   -- the row at a place
-  row-here : (k : ℕ) (r : rules.Register) → k < 27 → getD table k d ≡ row (getD rules.registers k r)
+  pub row-here : (k : ℕ) (r : rules.Register) → k < 27 → getD table k d ≡ row (getD rules.registers k r)
   unfolding rules.registers
   row-here k r h = rw same (any-default (map row rules.registers) k d (row r) h ∙ List·getD-map row rules.registers k r)
-
-  -- the row of an address in the map
-  pub row-at : (a k : ℕ) → k ≡ rules.place a → k < 27 → getD table k d ≡ row (rules.register a)
-  unfolding rules.register
-  row-at a k e h = rw e (row-here (rules.place a) (rules.reads a) (omega arith))
 
   -- one more byte of the column Fresh
   pub column-more : (regs : List ℕ) (k : ℕ) → length regs ≡ 27 → k < 27 → take k regs ≡ take k rules.freshTable
@@ -37,10 +32,10 @@ module _ (table : List code.Register) (d : code.Register) (same : table ≡ map 
       (ap (λ (r : code.Register). r .fresh) (row-here k (rules.reads 0) h)
       ∙ sym (List·getD-map (λ (r : rules.Register). r .fresh) rules.registers k (rules.reads 0))))
 
--- an address that is not in the map has the row of one that is read only
-pub row-outside : (a k : ℕ) → k ≡ rules.place a → 27 ≤ k → row (rules.reads a) ≡ row (rules.register a)
-unfolding rules.register rules.registers
-row-outside a k e h = ap row (sym (List·getD-eq-default rules.registers (rules.reads a) {n = rules.place a} (omega arith)))
+-- past the map, one register that is read only has the same row as another
+pub any-row : (k a b : ℕ) → row (getD rules.registers k (rules.reads a)) ≡ row (getD rules.registers k (rules.reads b))
+unfolding row
+any-row k a b = sym (List·getD-map row rules.registers k (rules.reads a)) ∙ List·getD-map row rules.registers k (rules.reads b)
 
 -- with all 27 bytes, the registers are the column Fresh
 pub column-all : (regs : List ℕ) (k : ℕ) → 27 ≤ k → length regs ≡ 27 → take k regs ≡ take k rules.freshTable → regs ≡ rules.freshTable

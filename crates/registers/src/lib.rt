@@ -3,7 +3,7 @@
 // The bytes of 0x26 and of the registers that are read only stay 0: what these show is kept elsewhere.
 ghost use mathlib.Core.Path.{_≡_};
 ghost use Prim.Native.Nat.{_+_};
-ghost use lib.ListN.{length};
+ghost use lib.ListN.{length, getD};
 ghost use Rattle.rules.specs.Settings as settings;
 ghost use Rattle.rules.specs.Registers as rules;
 ghost use Rattle.rules.specs.Registers.{settingsFrom, freshTable};
@@ -140,18 +140,24 @@ pub fn in_map(a: u8) -> bool
     place(a) < 27
 }
 
-// A register's row by its address; an address that is not in the map has the row of one that is read only.
-pub fn register_at(a: u8) -> Register
-    ensures { λ r. ⌜ r ≡ row (rules.register a) ⌝ }
+// A register's row by its place in the map; past the map, the row of one that is read only.
+pub fn row_at(k: usize) -> Register
+    ensures { λ r. ⌜ r ≡ row (getD rules.registers k (rules.reads 0)) ⌝ }
 {
-    let k = place(a);
     if k < 27 {
         return TABLE[k];
     }
     READ_ONLY
 }
 
-// The registers of a fresh unit: the column Fresh.
+// A register's row by its address; an address that is not in the map has the row of one that is read only.
+pub fn register_at(a: u8) -> Register
+    ensures { λ r. ⌜ r ≡ row (rules.register a) ⌝ }
+{
+    row_at(place(a))
+}
+
+// The registers of the standard fresh unit: the column Fresh.
 pub fn fresh_registers() -> [u8; 27]
     ensures { λ r. ⌜ r ≡ freshTable ⌝ }
 {

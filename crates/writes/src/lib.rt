@@ -33,7 +33,7 @@ pub fn written(regs: &mut [u8; 27], a: u8, v: u8)
 }
 
 // "reject − qualification" is 6 or more.
-fn limits_apart(reject: u8, qualification: u8) -> bool
+pub fn limits_apart(reject: u8, qualification: u8) -> bool
     ensures { λ r. ⌜ r ≡ leb (qualification + 6) reject ⌝ }
 {
     qualification as u16 + 6 <= reject as u16
