@@ -14,6 +14,7 @@ use Rattle.rules.specs.Run.{next, run}
 use Rattle.rules.specs.Preference.{Unmasked, Preferred}
 use Rattle.rules.specs.Service.{Provisos, AllFair, selectedTicks, readyTicks, acceptedTicks, Served}
 use Rattle.rules.specs.Registers.{fresh}
+use Rattle.rules.proofs.Loading.{standard}
 use Rattle.rules.proofs.Promise.{promise}
 use Rattle.rules.proofs.Computing.{computing}
 use Rattle.bounds.specs.Promise.{settings, alarmed, refilled, moment, oneTick, ticks, AlarmSet, BucketFull, AtStart, AtLargest}
@@ -58,7 +59,7 @@ kept : (lead : List Event) (k : ℕ) → Provisos 1 (moment lead) (ticks k)
     → Served (selectedTicks 1 (moment lead)) (readyTicks 1 (moment lead)) 1 (moment lead) (ticks k) (run fresh (lead ++ ticks k))
 kept lead k met =
     subst (λ es. Served (selectedTicks 1 (moment lead)) (readyTicks 1 (moment lead)) 1 (moment lead) (ticks k) (run fresh (lead ++ es))) (append-nil (ticks k))
-    (promise lead (ticks k) [] 1 (rw (append-nil (ticks k)) met))
+    (promise fresh standard lead (ticks k) [] 1 (rw (append-nil (ticks k)) met))
 
 -- ---- the statements
 

@@ -34,7 +34,7 @@ unfoldable pub refilled : List Event
 unfolding unlocked
 refilled = settings ++ (unlocked 79 ++ (setBucket 1 255 1 0 3 ∷ assignBucket 1 1 ∷ []))
 
--- the state at the moment
+-- the state at the moment; the standard fresh unit is enough, since one history shows that a number cannot be bettered
 abbrev pub moment : List Event → State
 moment lead = run fresh lead
 

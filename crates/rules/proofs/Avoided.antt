@@ -1,8 +1,8 @@
--- Every row of the table is computed.
+-- Every row of the two tables is computed.
 use mathlib.Core.Path.{refl}
-use Rattle.rules.specs.Avoided.{table, Avoided}
+use Rattle.rules.specs.Avoided.{table, loadings, Avoided}
 use Rattle.rules.proofs.Computing.{computing}
 
 pub avoided : Avoided
-unfolding computing table
-avoided = refl
+unfolding computing table loadings
+avoided = (refl, refl)

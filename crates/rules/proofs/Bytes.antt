@@ -8,7 +8,7 @@ use Rattle.rules.specs.Pll.{Mode, modeNumber, freeRun, holdover, preLock
 use Rattle.rules.specs.Selection.{input, available}
 use Rattle.rules.specs.History.{held}
 use Rattle.rules.specs.State.{State, mode, Ready}
-use Rattle.rules.specs.Registers.{inMap, readOnly, fresh}
+use Rattle.rules.specs.Registers.{inMap, readOnly}
 use Rattle.rules.specs.Reading.{maskUpTo, countUpTo, qualifiedMask, availableMask, availableCount, hours, stateByte, statusByte, valueByte}
 use Rattle.rules.specs.Reading.{shown, content, Answer, read}
 use Rattle.rules.specs.Run.{run}
@@ -109,4 +109,4 @@ unfolding read
 read-byte s w a = if-case (λ (x : Answer). x .byte < 256) (inMap a) (λ e. omega (arith, content-byte s w a)) (λ e. omega arith)
 
 pub bytes : Bytes
-bytes es a = read-byte (run fresh es) (invariants es) a
+bytes start f es a = read-byte (run start es) (invariants start f es) a

@@ -9,12 +9,14 @@ use lib.ListN.{getD, drop}
 use Rattle.rules.specs.Events.{Event, tick, measurement, hit, write, setBucket, assignBucket, isCall}
 use Rattle.rules.specs.State.{State}
 use Rattle.rules.specs.Tick.{steps1to4, step5, ticked}
-use Rattle.rules.specs.Registers.{freshFrom, fresh}
+use Rattle.rules.specs.Buckets.{freshBuckets}
+use Rattle.rules.specs.Registers.{freshWith}
 use Rattle.rules.specs.Refusals.{accepted}
 use Rattle.rules.specs.Run.{afterMeasurement, afterHit, afterWrite, effect, next, run}
 use Rattle.rules.specs.Sheet.{word32, signedWord, Decoded, event, bad, isZero, tickOf, measurementOf, hitOf, writeOf, fields, decode, settingsCount, eventsAt, eventsCount, settingsOf, before, eventsOf, sheetEvents}
 use Rattle.rules.specs.Laws.{Callless, Untouched, NoCalls}
 use Rattle.rules.proofs.Tests.{if-case}
+use Rattle.rules.proofs.Loading.{each-fresh}
 
 -- ---- a run sheet
 
@@ -82,5 +84,5 @@ kept-run [] s p = refl
 kept-run (e ∷ es) s p = kept-run es (next s e) (p .1) ∙ kept-next s e (p .0)
 
 pub untouched : Untouched
-unfolding fresh freshFrom
-untouched es p = kept-run es fresh p
+unfolding freshWith
+untouched start f es p = kept-run es start p ∙ each-fresh (λ (s : State). s .buckets ≡ freshBuckets) (λ set. refl) start f

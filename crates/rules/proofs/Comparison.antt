@@ -11,19 +11,20 @@ use lib.IntN.{ℤ}
 use Rattle.rules.specs.Words.{if_then_else_, isTracked}
 use Rattle.rules.specs.Events.{Event, tick, measurement, hit, write, setBucket, assignBucket}
 use Rattle.rules.specs.Pll.{alarmDue}
-use Rattle.rules.specs.Settings.{policy}
+use Rattle.rules.specs.Settings.{Settings, policy}
 use Rattle.rules.specs.Selection.{Inputs, Choice, chosen, unselectedLoop}
 use Rattle.rules.specs.Buckets.{bucketFrom, Buckets, setAt, withSet, withAssigned, putAtSize, having}
 use Rattle.rules.specs.History.{held, filling, commanded, freshHistory}
 use Rattle.rules.specs.State.{State, selected, Ready}
 use Rattle.rules.specs.Tick.{watchedAfter, loopAfter, inputsAfter, steps1to4, step5, ticked}
-use Rattle.rules.specs.Registers.{freshFrom, fresh}
+use Rattle.rules.specs.Registers.{freshWith}
 use Rattle.rules.specs.Refusals.{commandRefused, refusal, accepted}
 use Rattle.rules.specs.Run.{afterMeasurement, afterHit, afterWrite, afterCall, afterSet, afterAssign, effect, next, run}
 use Rattle.rules.specs.Laws.{SoundHistory, Lawful}
 use Rattle.rules.specs.OldHistory.{oldCommanded, withHistory, oldEffect, oldNext, oldRun}
 use Rattle.rules.specs.Comparison.{NeverLessReady}
 use Rattle.rules.proofs.Tests.{by-test, clash, and-left, and-right}
+use Rattle.rules.proofs.Loading.{each-fresh}
 use Rattle.rules.proofs.Invariants.{write-allowed, lawful-next, lawful-fresh, invariants}
 use Rattle.rules.proofs.Alike.{same, LoopAlike, alike-locked, alike-looped, alike-none, alike-at}
 use Rattle.rules.proofs.Commands.{Allowed, same-allowed, less-refused, one-or-two, allowed}
@@ -197,9 +198,9 @@ unfolding run oldRun
 twin-run [] o n t w = t
 twin-run (e ∷ es) o n t w = twin-run es (oldNext o e) (next n e) (twin-next o n t (w .history) e) (lawful-next n e w)
 
-twin-fresh : Twin fresh fresh
-unfolding fresh freshFrom freshHistory filling
-twin-fresh =
+twin-fresh : (set : Settings) → Twin (freshWith set) (freshWith set)
+unfolding freshWith freshHistory filling
+twin-fresh set =
     record {
       inputs-is = refl;
       buckets-is = refl;
@@ -211,5 +212,6 @@ twin-fresh =
 
 -- READY STANDS AFTER EACH EVENT AFTER WHICH IT STOOD UNDER THE OLD RULES
 pub never-less-ready : NeverLessReady
-never-less-ready es e =
-    twin-ready (oldRun fresh es) (run fresh es) (twin-run es fresh fresh twin-fresh lawful-fresh) (invariants es .history) e
+never-less-ready start f es e =
+    twin-ready (oldRun start es) (run start es) (twin-run es start start (each-fresh (λ (s : State). Twin s s) twin-fresh start f) (lawful-fresh start f))
+    (invariants start f es .history) e

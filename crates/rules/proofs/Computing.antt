@@ -12,6 +12,7 @@ use Rattle.rules.specs.Registers
 use Rattle.rules.specs.Reading
 use Rattle.rules.specs.Refusals
 use Rattle.rules.specs.Run
+use Rattle.rules.specs.Loading
 use Rattle.rules.specs.Sheet
 use Rattle.rules.specs.Printout
 use Rattle.rules.specs.Pages
@@ -35,11 +36,12 @@ unfolding
     History.withCommand History.commanded History.freshHistory
     Tick.watched Tick.watchedAfter Tick.loopAfter Tick.inputsAfter Tick.holdingAfter Tick.steps1to4 Tick.step5 Tick.ticked
     Registers.registers Registers.place Registers.inMap Registers.register Registers.readOnly Registers.largest Registers.stored Registers.written
-    Registers.settingsFrom Registers.freshFrom Registers.freshTable Registers.fresh
+    Registers.settingsFrom Registers.freshWith Registers.freshTable Registers.fresh
     Reading.maskUpTo Reading.countUpTo Reading.qualifiedMask Reading.availableMask Reading.availableCount Reading.hours Reading.stateByte
     Reading.statusByte Reading.twos Reading.valueByte Reading.shown Reading.content Reading.read
     Refusals.limitsApart Refusals.limitsRefused Refusals.commandRefused Refusals.writeRefusal Refusals.setRefusal Refusals.assignRefusal Refusals.refusal
     Run.afterMeasurement Run.afterHit Run.afterWrite Run.afterCall Run.afterSet Run.afterAssign Run.effect Run.next Run.outcome Run.run
+    Loading.most Loading.fits Loading.loads Loading.loadRefusal Loading.freshFrom Loading.loading
     Sheet.signed Sheet.tickOf Sheet.measurementOf Sheet.hitOf Sheet.writeOf Sheet.fields Sheet.decode Sheet.settingsCount Sheet.eventsAt
     Sheet.eventsCount Sheet.sheetEnd Sheet.settingsOf Sheet.before Sheet.eventsOf Sheet.sheetEvents Sheet.isEvent Sheet.allEvents Sheet.recordCount
     Sheet.check Sheet.recordOf Sheet.records Sheet.front Sheet.outputAfter

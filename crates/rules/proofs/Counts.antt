@@ -11,12 +11,14 @@ use Rattle.rules.specs.Pll.{Mode, holdover, is, modeNumber}
 use Rattle.rules.specs.Settings.{delayTicks}
 use Rattle.rules.specs.State.{State, selected, mode}
 use Rattle.rules.specs.Tick.{hourTicks, holdingLimit, holdingAfter, steps1to4, step5, ticked}
-use Rattle.rules.specs.Registers.{fresh, freshFrom}
+use Rattle.rules.specs.Registers.{freshWith}
 use Rattle.rules.specs.Reading.{hours}
 use Rattle.rules.specs.Refusals.{refusal, accepted}
 use Rattle.rules.specs.Run.{afterMeasurement, afterHit, afterWrite, afterCall, afterSet, afterAssign, effect, next, run}
+use Rattle.rules.specs.Loading.{Fresh}
 use Rattle.rules.specs.Laws.{LeastDelay, Delays, Lawful, heldAfter, heldTicks, Hours}
 use Rattle.rules.proofs.Tests.{if-case, by-test, zero-if}
+use Rattle.rules.proofs.Loading.{each-fresh}
 use Rattle.rules.proofs.Invariants.{lawful-next, lawful-fresh}
 
 -- the delay in ticks is the least that is enough
@@ -76,7 +78,14 @@ unfolding run heldTicks
 held-run [] n s w h = h
 held-run (e ∷ es) n s w h = held-run es (heldAfter n s e) (next s e) (lawful-next s e w) (held-next n s e w h)
 
+-- a fresh unit has counted none
+fresh-holding : (start : State) → Fresh start → start .holding ≡ 0
+unfolding freshWith
+fresh-holding = each-fresh (λ (s : State). s .holding ≡ 0) (λ set. refl)
+
 -- 0x27 shows the whole hours in Holdover after the entering event, at most 255
 pub hours-held : Hours
-unfolding hours fresh freshFrom
-hours-held es = by-test (is holdover (mode (run fresh es))) (λ h. rw (h, held-run es 0 fresh lawful-fresh refl) (hours-shown (heldTicks 0 fresh es))) (λ h. rw h refl)
+unfolding hours
+hours-held start f es =
+    by-test (is holdover (mode (run start es)))
+    (λ h. rw (h, held-run es 0 start (lawful-fresh start f) (fresh-holding start f)) (hours-shown (heldTicks 0 start es))) (λ h. rw h refl)

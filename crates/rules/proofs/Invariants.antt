@@ -19,12 +19,13 @@ use Rattle.rules.specs.Buckets.{bucketFrom, Buckets, startBucket, bucket
 use Rattle.rules.specs.History.{History, freshHistory, held}
 use Rattle.rules.specs.State.{State, selected, Ready}
 use Rattle.rules.specs.Tick.{holdingLimit, holdingAfter, steps1to4, step5, ticked}
-use Rattle.rules.specs.Registers.{place, inMap, registers, register, readOnly, largest, stored, written, settingsFrom, freshFrom, freshTable, fresh}
+use Rattle.rules.specs.Registers.{place, inMap, registers, register, readOnly, largest, stored, written, freshWith}
 use Rattle.rules.specs.Refusals.{limitsApart, limitsRefused, commandRefused, writeRefusal, refusal, accepted}
 use Rattle.rules.specs.Run.{afterMeasurement, afterHit, afterWrite, afterCall, afterSet, afterAssign, effect, next, run}
+use Rattle.rules.specs.Loading.{freshFrom, Fresh}
 use Rattle.rules.specs.Laws.{SoundBuckets, SoundInputs, SoundSettings, SoundHistory, Lawful, Invariants, Saturation}
 use Rattle.rules.proofs.Tests.{if-case, by-test, clash, and-false, or-false, low, high, unrefused, zero-if}
-use Rattle.rules.proofs.Tables.{fresh-largest}
+use Rattle.rules.proofs.Loading.{stored-le, sound-loaded}
 use Rattle.rules.proofs.OneInput.{works, sound-measured, sound-unsoaked, sound-fresh}
 use Rattle.rules.proofs.SoundBuckets.{SetAllowed, set-allowed, assign-allowed, sound-set, sound-assigned, sound-start, start-bucket, sound-fresh-buckets, bucket-works}
 use Rattle.rules.proofs.SoundInputs.{sound-altered, sound-inputs, sound-after-set, sound-after-assign}
@@ -60,10 +61,6 @@ write-allowed s a v e =
 pub write-accepted : (s : State) (a v : ℕ) → WriteAllowed s a v → accepted s (write a v) ≡ true
 unfolding refusal writeRefusal
 write-accepted s a v ok = rw (ok .known, ok .writable, le-ltb (largest a) v (ok .small), ok .limits, ok .command) refl
-
-stored-le : (a v : ℕ) → stored a v ≤ v
-unfolding stored
-stored-le a v = if-case (λ n. n ≤ v) (leb a 0x23) (λ e. omega arith) (λ e. omega arith)
 
 same-written : (a v : ℕ) (set : Settings) → written a v set a ≡ stored a v
 unfolding written
@@ -220,10 +217,10 @@ lawful-run (e ∷ es) s w = lawful-run es (next s e) (lawful-next s e w)
 
 -- ---- a fresh unit
 
--- from a table of values that settings may have
-pub lawful-from : (table : List ℕ) → SoundSettings (settingsFrom table) → Lawful (freshFrom table)
-unfolding freshFrom freshHistory settled modeNumber
-lawful-from table w =
+-- with settings that are sound
+lawful-with : (set : Settings) → SoundSettings set → Lawful (freshWith set)
+unfolding freshWith freshHistory settled modeNumber
+lawful-with set w =
     record {
       buckets = sound-fresh-buckets;
       inputs =
@@ -239,27 +236,23 @@ lawful-from table w =
       holding-none = λ e. refl;
     }
 
-pub fresh-sound : SoundSettings (settingsFrom freshTable)
-unfolding settingsFrom freshTable registers place
-fresh-sound = record { largest-le = fresh-largest; apart = omega arith }
-
-pub lawful-fresh : Lawful fresh
-unfolding fresh
-lawful-fresh = lawful-from freshTable fresh-sound
+pub lawful-fresh : (start : State) → Fresh start → Lawful start
+unfolding freshFrom
+lawful-fresh start f = subst Lawful (f .made) (lawful-with _ (sound-loaded (f .table) (f .loaded)))
 
 pub invariants : Invariants
-invariants es = lawful-run es fresh lawful-fresh
+invariants start f es = lawful-run es start (lawful-fresh start f)
 
 -- ---- a bound of the rules' own never changes anything
 
 pub saturation : Saturation
-saturation es =
+saturation start f es =
     record {
       unlockRun = omega (arith, w .loop .unlock-lt);
       wait = omega (arith, w .loop .wait-lt);
-      openSum = λ x small. sum-kept x (run fresh es .history) small (w .history);
+      openSum = λ x small. sum-kept x (run start es .history) small (w .history);
       selectedBits = omega (arith, w .loop .selected-le);
     }
   where
-    w : Lawful (run fresh es)
-    w = invariants es
+    w : Lawful (run start es)
+    w = invariants start f es

@@ -1,6 +1,7 @@
 -- The laws of the rules, all in one place: each statement with its proof.
 use Rattle.rules.specs.Laws.{Laws}
 use Rattle.rules.proofs.Tables.{map-places}
+use Rattle.rules.proofs.Loading.{standard, reads-back}
 use Rattle.rules.proofs.Counts.{delays, hours-held}
 use Rattle.rules.proofs.Value.{value-floor, value-range}
 use Rattle.rules.proofs.Best.{best-candidate}
@@ -32,6 +33,8 @@ laws =
       refused = refused;
       map = map-places;
       bytes = bytes;
+      standard = standard;
+      readsBack = reads-back;
       untouched = untouched;
       noCalls = no-calls;
       outputs = outputs;

@@ -4,6 +4,7 @@ pub mod Avoided
 pub mod Tests
 pub mod Integers
 pub mod Tables
+pub mod Loading
 pub mod Counts
 pub mod Value
 pub mod EightInputs

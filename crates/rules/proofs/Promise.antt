@@ -15,7 +15,6 @@ use Rattle.rules.specs.Selection.{input}
 use Rattle.rules.specs.Buckets.{bucketFrom, startBucket, bucketOf}
 use Rattle.rules.specs.History.{readyBlocks, ready}
 use Rattle.rules.specs.State.{State, selected, Ready}
-use Rattle.rules.specs.Registers.{fresh}
 use Rattle.rules.specs.Run.{next, run}
 use Rattle.rules.specs.Laws.{Lawful}
 use Rattle.rules.specs.Service.{Provisos, qualifyTicks, fillTicks, selectedTicks, readyTicks, Numbers, acceptedTicks, Served, Promise, PromiseInFigures, PromiseAtStart}
@@ -115,15 +114,15 @@ served-from s after later r w p =
 
 -- THE PROMISE OF SERVICE
 pub promise : Promise
-promise before after later r p =
-    rw (run-append before (after ++ later) fresh) (served-from (run fresh before) after later r (invariants before) p)
+promise start f before after later r p =
+    rw (run-append before (after ++ later) start) (served-from (run start before) after later r (invariants start f before) p)
 
 -- THE PROMISE IN FIGURES
 pub promise-in-figures : PromiseInFigures
-promise-in-figures before after later r n size setLevel clearLevel d is delayed p =
-    let served = promise before after later r p in
+promise-in-figures start f before after later r n size setLevel clearLevel d is delayed p =
+    let served = promise start f before after later r p in
     let ticks = ap qualifyTicks is ∙ numbers .qualify size setLevel clearLevel d in
-    let least = least-delay (delay (run fresh before .settings)) n delayed in
+    let least = least-delay (delay (run start before .settings)) n delayed in
     record {
       selected-is = λ h. served .selected-is (omega (arith, ticks, least));
       ready-is = λ h. served .ready-is (omega (arith, ticks, least, numbers .fill));
@@ -132,6 +131,6 @@ promise-in-figures before after later r n size setLevel clearLevel d is delayed 
 -- AND WITH THE SETS AS THEY START
 pub promise-at-start : PromiseAtStart
 unfolding startBucket
-promise-at-start before after later r n is delayed p =
-    let served = promise-in-figures before after later r n 8 6 4 1 is delayed p in
+promise-at-start start f before after later r n is delayed p =
+    let served = promise-in-figures start f before after later r n 8 6 4 1 is delayed p in
     record { selected-is = served .selected-is; ready-is = λ h. served .ready-is (omega arith) }

@@ -22,6 +22,7 @@ use Rattle.rules.specs.Sheet.{sheetEvents, check, recordOf, records, fro
 use Rattle.rules.proofs.Counts.{delays}
 use Rattle.rules.proofs.SoundBuckets.{start-bucket}
 use Rattle.rules.proofs.Callless.{callless-front, no-calls, untouched}
+use Rattle.rules.proofs.Loading.{standard}
 use Rattle.rules.proofs.Promise.{run-append, promise-at-start}
 use Rattle.rules.proofs.Sheets.{record-is, records-append, length-records}
 use Rattle.rules.specs.Laws.{Callless}
@@ -78,8 +79,8 @@ records-promise sheet room before after later e rest r zero events p =
     let bytes = record-is (refusal (run fresh xs) e) now in
     let same = state-after before after later e in
     let plain = callless-front before (after ++ later) (callless-front xs (e ∷ rest) (subst Callless events (no-calls sheet))) in
-    let start : bucketOf (run fresh before .buckets) r ≡ startBucket = rw (untouched before plain) (start-bucket r) in
-    let served = promise-at-start before after (later ++ (e ∷ [])) r (reversion (run fresh before .settings)) start (delays (delay (run fresh before .settings))) p in
+    let start : bucketOf (run fresh before .buckets) r ≡ startBucket = rw (untouched fresh standard before plain) (start-bucket r) in
+    let served = promise-at-start fresh standard before after (later ++ (e ∷ [])) r (reversion (run fresh before .settings)) start (delays (delay (run fresh before .settings))) p in
     let state = bytes-are sheet room xs e rest 1 zero events ∙ ap (λ (l : List ℕ). getD (l ++ records now rest) 1 0) bytes in
     let status = bytes-are sheet room xs e rest 3 zero events ∙ ap (λ (l : List ℕ). getD (l ++ records now rest) 3 0) bytes in
     record {

@@ -13,7 +13,6 @@ use Rattle.rules.specs.Events.{Event, tick, measurement, hit, write, set
 use Rattle.rules.specs.History.{History, readyBlocks, ready, withBlocks, openEmptied, startsBuilding, withLast, noted, recorded, backedUp, replaced, withCommand, commanded}
 use Rattle.rules.specs.State.{State, Ready}
 use Rattle.rules.specs.Tick.{steps1to4, step5, ticked}
-use Rattle.rules.specs.Registers.{fresh}
 use Rattle.rules.specs.Refusals.{accepted}
 use Rattle.rules.specs.Run.{afterMeasurement, afterHit, afterWrite, afterCall, afterSet, afterAssign, effect, next, run}
 use Rattle.rules.specs.Laws.{SoundHistory}
@@ -76,13 +75,13 @@ stands s (write a v) w k = if-case Or (accepted s (write a v)) (λ e. yes e (eqb
 -- IT ENDS ONLY WITH AN ACCEPTED WRITE OF 3 TO 0x26
 pub ends-by-command-3 : EndsByCommand3
 unfolding run ready Stands
-ends-by-command-3 es e before after = go (stands s e (invariants es .history) (leb-true readyBlocks (length (s .history .kept)) before))
+ends-by-command-3 start f es e before after = go (stands s e (invariants start f es .history) (leb-true readyBlocks (length (s .history .kept)) before))
   where
     s : State
-    s = run fresh es
+    s = run start es
 
-    is : run fresh (es ++ e ∷ []) ≡ next s e
-    is = run-append es (e ∷ []) fresh
+    is : run start (es ++ e ∷ []) ≡ next s e
+    is = run-append es (e ∷ []) start
 
     go : Stands s e → (e ≡ write 0x26 3) × (accepted s e ≡ true)
     go (inl l) = clash (le-leb readyBlocks (length (next s e .history .kept)) l) (ap Ready (sym is) ∙ after)

@@ -5,22 +5,23 @@ use mathlib.Core.Bool.{Bool, true, false, _&&_, and-eq-true-iff}
 use mathlib.Core.List.{List, [], _∷_}
 use native.Mathlib.Omega.{arith}
 use lib.Dec.{leb, ltb, eqb}
-use lib.ListN.{getD, List·getD-map}
+use lib.ListN.{length, getD}
 use borrow.Author.Tests.{leb-true, lt-leb, ltb-true, ltb-false, eqb-true}
-use Rattle.rules.specs.Registers.{Register, registers, reads, place, inMap, register, largest, settingsFrom, freshTable}
+use Rattle.rules.specs.Words.{every}
+use Rattle.rules.specs.Registers.{Register, registers, reads, place, inMap, register, largest}
 use Rattle.rules.specs.Laws.{Map}
 use Rattle.rules.proofs.Tests.{by-test, clash, and-false}
 
--- every element of a list passes a test
-abbrev pub every : {A : Type 0} → (A → Bool) → List A → Bool
-every test [] = true
-every test (x ∷ xs) = test x && every test xs
+-- a test that every element passes, and the default if the index is past the end, the element at an index passes
+pub at-index : {A : Type 0} (test : A → Bool) (l : List A) (d : A) → every test l ≡ true → (i : ℕ) → (length l ≤ i → test d ≡ true) → test (getD l i d) ≡ true
+at-index test [] d e i f = f (omega arith)
+at-index test (x ∷ xs) d e zero f = and-eq-true-iff (test x) (every test xs) .0 e .0
+at-index test (x ∷ xs) d e (suc i) f = at-index test xs d (and-eq-true-iff (test x) (every test xs) .0 e .1) i (λ past. f (omega (arith, past)))
 
--- a test that every element and the default pass, the element at each index passes
-pub at-index : {A : Type 0} (test : A → Bool) (l : List A) (d : A) → every test l ≡ true → test d ≡ true → (i : ℕ) → test (getD l i d) ≡ true
-at-index test [] d e f i = f
-at-index test (x ∷ xs) d e f zero = and-eq-true-iff (test x) (every test xs) .0 e .0
-at-index test (x ∷ xs) d e f (suc i) = at-index test xs d (and-eq-true-iff (test x) (every test xs) .0 e .1) f i
+-- and a list whose elements all pass a test
+pub all-pass : {A : Type 0} (test : A → Bool) (l : List A) (d : A) → ((i : ℕ) → i < length l → test (getD l i d) ≡ true) → every test l ≡ true
+all-pass test [] d f = refl
+all-pass test (x ∷ xs) d f = rw (f 0 (omega arith)) (all-pass test xs d (λ i h. f (suc i) (omega (arith, h))))
 
 -- every number below a bound passes a test
 abbrev pub everyBelow : (ℕ → Bool) → ℕ → Bool
@@ -52,11 +53,4 @@ map-places a m =
 -- Largest is a byte
 pub largest-byte : (a : ℕ) → largest a ≤ 255
 unfolding largest register registers
-largest-byte a = leb-true (register a .largest) 255 (at-index (λ (r : Register). leb (r .largest) 255) registers (reads a) refl refl (place a))
-
--- Fresh is at most Largest
-pub fresh-largest : (a : ℕ) → settingsFrom freshTable a ≤ largest a
-unfolding settingsFrom freshTable largest register registers
-fresh-largest a =
-    rw (List·getD-map (λ (r : Register). r .fresh) registers (place a) (reads a))
-    (leb-true (register a .fresh) (register a .largest) (at-index (λ (r : Register). leb (r .fresh) (r .largest)) registers (reads a) refl refl (place a)))
+largest-byte a = leb-true (register a .largest) 255 (at-index (λ (r : Register). leb (r .largest) 255) registers (reads a) refl (place a) (λ past. refl))

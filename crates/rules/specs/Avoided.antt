@@ -1,10 +1,11 @@
 -- The traps of document 01 and the cheap programs of "Every result is settled", avoided, and a few more wrong
--- rules, those of requests #102 and #104 among them: for each a small case in which the rules give something else.
+-- rules, those of requests #102, #104 and #105 among them: for each a small case in which the rules give something else.
+-- A run is from the standard fresh unit, or from a unit that is written down: one history is enough to tell a wrong rule.
 use Prim.Native.Nat.{ℕ}
 use mathlib.Core.Bool.{Bool, true, false}
-use mathlib.Core.List.{List, [], _∷_}
+use mathlib.Core.List.{List, [], _∷_, _++_}
 use lib.IntN.{pos, negsuc}
-use lib.ListN.{length, replicate}
+use lib.ListN.{length, replicate, set, take}
 use Rattle.rules.specs.Words.{if_then_else_}
 use Rattle.rules.specs.Events.{tick, hit, write, setBucket, assignBucket}
 use Rattle.rules.specs.Monitors.{Activity, Input, measured, fullSoak, freshInput}
@@ -14,10 +15,11 @@ use Rattle.rules.specs.Selection.{Inputs, input, Choice, settled, chosen
 use Rattle.rules.specs.History.{History, ready, withBlocks, completed, noted, value, replaced, commanded, freshHistory}
 use Rattle.rules.specs.State.{State, selected}
 use Rattle.rules.specs.Tick.{holdingAfter}
-use Rattle.rules.specs.Registers.{written, fresh}
+use Rattle.rules.specs.Registers.{place, written, freshTable, fresh}
 use Rattle.rules.specs.Reading.{stateByte, read}
 use Rattle.rules.specs.Refusals.{refusal}
 use Rattle.rules.specs.Run.{next, run}
+use Rattle.rules.specs.Loading.{loads, freshFrom, loading}
 use Rattle.rules.specs.Sheet.{check}
 use Rattle.rules.specs.Printout.{ascii, decimal, hexadecimal}
 use Rattle.rules.specs.Table.{Row, _is_, Holds}
@@ -73,6 +75,10 @@ full size = record { level = size; decay = 0; alarm = true }
 -- the soak of input 1, qualified, after set 0 is set to S, 1, 0, 0 and a tick is clean
 abbrev soakOver : ℕ → ℕ
 soakOver size = input (run (unit (setting 0 0 0) (clocks true true true)) (setBucket 0 size 1 0 0 ∷ tick 0 true (pos 0) ∷ []) .inputs) 1 .soak
+
+-- the standard table with another value for one register
+abbrev tableWith : ℕ → ℕ → List ℕ
+tableWith a v = set freshTable (place a) v
 
 -- ---- the table
 
@@ -166,5 +172,32 @@ table =
     ∷ hexadecimal 0xaf is ascii "af"
     ∷ []
 
+-- ---- the table of loading, #105
+
+unfoldable pub loadings : List Row
+loadings =
+    -- a table of 26 bytes or 28 that loads; a register that is read only, or the command, with a value
+    loads (take 26 freshTable) is false
+    ∷ loads (freshTable ++ 0 ∷ []) is false
+    ∷ loads (tableWith 0x27 1) is false
+    ∷ loads (tableWith 0x4e 1) is false
+    ∷ loads (tableWith 0x26 1) is false
+    -- a value above Largest, or limits 5 apart, let through; one at Largest, or limits 6 apart, refused
+    ∷ loads (tableWith 0x24 32) is false
+    ∷ loads (tableWith 0x24 31) is true
+    ∷ loads (tableWith 0x44 30) is false
+    ∷ loads (tableWith 0x44 31) is true
+    ∷ loads (tableWith 0x45 26) is false
+    -- bits 7-4 of an input's register refused, or stored; those of another register dropped
+    ∷ loads (tableWith 0x23 0xf9) is true
+    ∷ freshFrom (tableWith 0x23 0xf9) .settings 0x23 is 0x09
+    ∷ freshFrom (tableWith 0x42 0xf9) .settings 0x42 is 0xf9
+    -- a load that is turned down and clears the unit; one that is accepted and leaves something
+    ∷ loading (tableWith 0x26 1) (inHoldover 5) .refusal is 15
+    ∷ loading (tableWith 0x26 1) (inHoldover 5) .state .holding is 5
+    ∷ loading (tableWith 0x40 1) (inHoldover 5) .refusal is 0
+    ∷ loading (tableWith 0x40 1) (inHoldover 5) .state .holding is 0
+    ∷ []
+
 abbrev pub Avoided : Type 0
-Avoided = Holds table
+Avoided = Holds table × Holds loadings

@@ -15,13 +15,14 @@ use Rattle.rules.specs.Pll.{modeNumber, holdover, is, Loop, lockTicks, u
 use Rattle.rules.specs.Settings.{Settings, automatic, reject, qualification, usable, revertive, ahead, delayTicks}
 use Rattle.rules.specs.Selection.{Inputs, input, Choice, available, candidate, best, settled, waitLimit, waitAfter, reverted, chosen}
 use Rattle.rules.specs.Buckets.{Buckets, freshBuckets, setAt, setOf, bucketOf}
-use Rattle.rules.specs.History.{History, blockSamples, keptBlocks, readyBlocks, ready, sumLimit, saturated, sumOf, value}
-use Rattle.rules.specs.State.{State, selected, mode}
+use Rattle.rules.specs.History.{History, blockSamples, keptBlocks, readyBlocks, sumLimit, saturated, sumOf, value}
+use Rattle.rules.specs.State.{State, selected, mode, Ready}
 use Rattle.rules.specs.Tick.{hourTicks, holdingLimit}
-use Rattle.rules.specs.Registers.{inMap, register, largest, fresh}
+use Rattle.rules.specs.Registers.{inMap, register, readOnly, largest, stored, settingsFrom, fresh}
 use Rattle.rules.specs.Reading.{hours, twos, read}
 use Rattle.rules.specs.Refusals.{accepted}
 use Rattle.rules.specs.Run.{next, run}
+use Rattle.rules.specs.Loading.{loads, freshFrom, Fresh}
 use Rattle.rules.specs.Sheet.{signedWord, sheetEvents, recordCount, check, front, outputAfter}
 use Rattle.rules.specs.Printout.{decimal}
 
@@ -108,9 +109,9 @@ pub record Lawful (s : State) : Type 0 where
   pub holding-none : (modeNumber (mode s) ≡ modeNumber holdover → ⊥) → s .holding ≡ 0
 
 abbrev pub Invariants : Type 0
-Invariants = (es : List Event) → Lawful (run fresh es)
+Invariants = (start : State) → Fresh start → (es : List Event) → Lawful (run start es)
 
--- ---- a bound that stands in a rule and not in document 01 never shows, from fresh
+-- ---- a bound that stands in a rule and not in document 01 never shows, from a fresh unit
 
 pub record Unsaturated (s : State) : Type 0 where
   pub unlockRun : min unlockTicks (s .loop .unlockRun + 1) ≡ s .loop .unlockRun + 1
@@ -119,7 +120,7 @@ pub record Unsaturated (s : State) : Type 0 where
   pub selectedBits : selected s % 16 ≡ selected s
 
 abbrev pub Saturation : Type 0
-Saturation = (es : List Event) → Unsaturated (run fresh es)
+Saturation = (start : State) → Fresh start → (es : List Event) → Unsaturated (run start es)
 
 -- the ticks in Holdover after the entering event, with no bound: n of them in state s, then those of a list of events
 unfoldable pub heldAfter : ℕ → State → Event → ℕ
@@ -133,7 +134,9 @@ heldTicks n s (e ∷ es) = heldTicks (heldAfter n s e) (next s e) es
 
 -- 0x27 shows the hours of that count
 abbrev pub Hours : Type 0
-Hours = (es : List Event) → hours (run fresh es) ≡ (if is holdover (mode (run fresh es)) then min 255 (heldTicks 0 fresh es / hourTicks) else 0)
+Hours =
+    (start : State) → Fresh start → (es : List Event)
+    → hours (run start es) ≡ (if is holdover (mode (run start es)) then min 255 (heldTicks 0 start es / hourTicks) else 0)
 
 -- ---- selection
 
@@ -200,7 +203,7 @@ TwosComplement = (z : ℤ) → natAbs z ≤ sampleLimit → signedWord (twos z) 
 
 -- a fresh unit is not Ready
 abbrev pub NotReady : Type 0
-NotReady = ready (fresh .history) ≡ false
+NotReady = (start : State) → Fresh start → Ready start ≡ false
 
 -- ---- events and registers
 
@@ -214,7 +217,19 @@ Map = (a : ℕ) → inMap a ≡ true → register a .address ≡ a
 
 -- each register is a byte
 abbrev pub Bytes : Type 0
-Bytes = (es : List Event) (a : ℕ) → read (run fresh es) a .byte < 256
+Bytes = (start : State) → Fresh start → (es : List Event) (a : ℕ) → read (run start es) a .byte < 256
+
+-- ---- tables of fresh values
+
+-- the standard fresh unit is one that a table makes
+abbrev pub Standard : Type 0
+Standard = Fresh fresh
+
+-- what a table has for a register that may be written reads back, in 0x1c to 0x23 without bits 7-4
+abbrev pub ReadsBack : Type 0
+ReadsBack =
+    (table : List ℕ) (a : ℕ) → loads table ≡ true → inMap a ≡ true → readOnly a ≡ false
+    → read (freshFrom table) a .byte ≡ stored a (settingsFrom table a)
 
 -- ---- the calls of the host's
 
@@ -225,13 +240,13 @@ Callless (e ∷ es) = (isCall e ≡ false) × Callless es
 
 -- leaves every set and every input's set as they start
 abbrev pub Untouched : Type 0
-Untouched = (es : List Event) → Callless es → run fresh es .buckets ≡ freshBuckets
+Untouched = (start : State) → Fresh start → (es : List Event) → Callless es → run start es .buckets ≡ freshBuckets
 
 -- and a run sheet has none
 abbrev pub NoCalls : Type 0
 NoCalls = (s : List ℕ) → Callless (sheetEvents s)
 
--- ---- run sheets
+-- ---- run sheets, which run on the standard fresh unit
 
 -- a sheet that runs writes 4 bytes a record, within the output, and leaves the output's length
 pub record Fits (s output : List ℕ) : Type 0 where
@@ -282,6 +297,8 @@ pub record Laws : Type 0 where
   pub refused : Refused
   pub map : Map
   pub bytes : Bytes
+  pub standard : Standard
+  pub readsBack : ReadsBack
   pub untouched : Untouched
   pub noCalls : NoCalls
   pub outputs : Outputs

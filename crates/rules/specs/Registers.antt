@@ -96,13 +96,13 @@ written a v set b = if eqb b a then stored a v else set b
 unfoldable pub settingsFrom : List ℕ → Settings
 settingsFrom table a = getD table (place a) 0
 
--- "Fresh: all counts 0, activity alarms clear, frequency alarms set, selected 0, Free Run."
-unfoldable pub freshFrom : List ℕ → State
-freshFrom table =
+-- with these settings: "Fresh: all counts 0, activity alarms clear, frequency alarms set, selected 0, Free Run."
+unfoldable pub freshWith : Settings → State
+freshWith set =
     record {
       inputs = replicate 8 freshInput;
       buckets = freshBuckets;
-      settings = settingsFrom table;
+      settings = set;
       loop = record { mode = freeRun; lockRun = 0; unlockRun = 0 };
       choice = settled 0;
       history = freshHistory;
@@ -113,5 +113,6 @@ freshFrom table =
 unfoldable pub freshTable : List ℕ
 freshTable = map (λ (r : Register). r .fresh) registers
 
+-- the standard fresh unit; those of a buyer's own stand in Loading
 unfoldable pub fresh : State
-fresh = freshFrom freshTable
+fresh = freshWith (settingsFrom freshTable)

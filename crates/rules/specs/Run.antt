@@ -1,4 +1,4 @@
--- What each event leaves, and a list of events from a fresh unit.
+-- What each event leaves, and a list of events.
 use Prim.Native.Nat.{ℕ}
 use mathlib.Core.List.{List, [], _∷_}
 use lib.Dec.{eqb}

@@ -1,4 +1,4 @@
--- Document 01, "Demand 3", as request #104 of document 02 has it: the promise of service, one claim about whole histories from a fresh unit.
+-- Document 01, "Demand 3", as requests #104 and #105 of document 02 have it: the promise of service, one claim about whole histories from a fresh unit.
 use Prim.Native.Nat.{ℕ, _+_, _*_, _-_, _^_, _≤_, max}
 use mathlib.Core.Path.{_≡_}
 use mathlib.Core.Bool.{true, false, _&&_}
@@ -13,9 +13,9 @@ use Rattle.rules.specs.Selection.{input}
 use Rattle.rules.specs.Buckets.{bucketFrom, startBucket, bucketOf}
 use Rattle.rules.specs.History.{blockSamples, readyBlocks}
 use Rattle.rules.specs.State.{State, selected, Ready}
-use Rattle.rules.specs.Registers.{fresh}
 use Rattle.rules.specs.Refusals.{accepted}
 use Rattle.rules.specs.Run.{next, run}
+use Rattle.rules.specs.Loading.{Fresh}
 use Rattle.rules.specs.Laws.{LeastDelay}
 use Rattle.rules.specs.Preference.{Automatic, Preferred}
 
@@ -94,31 +94,31 @@ pub record Served (toSelected toReady r : ℕ) (s : State) (after : List Event) 
   pub selected-is : toSelected ≤ acceptedTicks s after → selected now ≡ r
   pub ready-is : toReady ≤ acceptedTicks s after → Ready now ≡ true
 
--- Take every list of events from a fresh unit, `before`, `after` and `later`, with the moment after `before`, and every reference r for which the provisos
--- hold. After the accepted tick with number `selectedTicks`, counted from the moment, and after every later event, r is selected; after the one with number
--- `readyTicks`, and after every later event, Ready stands too.
+-- Take every fresh unit, the standard one or a buyer's own, every list of events from it, `before`, `after` and `later`, with the moment after `before`, and
+-- every reference r for which the provisos hold. After the accepted tick with number `selectedTicks`, counted from the moment, and after every later event, r
+-- is selected; after the one with number `readyTicks`, and after every later event, Ready stands too.
 abbrev pub Promise : Type 0
 Promise =
-    (before after later : List Event) (r : ℕ)
-    → Provisos r (run fresh before) (after ++ later)
-    → Served (selectedTicks r (run fresh before)) (readyTicks r (run fresh before)) r (run fresh before) after (run fresh (before ++ (after ++ later)))
+    (start : State) → Fresh start → (before after later : List Event) (r : ℕ)
+    → Provisos r (run start before) (after ++ later)
+    → Served (selectedTicks r (run start before)) (readyTicks r (run start before)) r (run start before) after (run start (before ++ (after ++ later)))
 
 -- The same in figures: "n is the least whole number with 4n at least 1,875 times the reversion delay in minutes." #104: r's set at the moment
 -- is S, U, L, d, and "78 + the larger of 782 and (S − L) times 2^d" stands "for its 860, with 5,519 more to Ready".
 abbrev pub PromiseInFigures : Type 0
 PromiseInFigures =
-    (before after later : List Event) (r n size setLevel clearLevel d : ℕ)
-    → bucketOf (run fresh before .buckets) r ≡ bucketFrom size setLevel clearLevel d
-    → LeastDelay (delay (run fresh before .settings)) n
-    → Provisos r (run fresh before) (after ++ later)
+    (start : State) → Fresh start → (before after later : List Event) (r n size setLevel clearLevel d : ℕ)
+    → bucketOf (run start before .buckets) r ≡ bucketFrom size setLevel clearLevel d
+    → LeastDelay (delay (run start before .settings)) n
+    → Provisos r (run start before) (after ++ later)
     → let toSelected = 78 + max 782 ((size - clearLevel) * 2 ^ d) + n in
-    Served toSelected (toSelected + 5_519) r (run fresh before) after (run fresh (before ++ (after ++ later)))
+    Served toSelected (toSelected + 5_519) r (run start before) after (run start (before ++ (after ++ later)))
 
 -- With r's set as the sets start this is document 01's: 860 + n, and 6,379 + n.
 abbrev pub PromiseAtStart : Type 0
 PromiseAtStart =
-    (before after later : List Event) (r n : ℕ)
-    → bucketOf (run fresh before .buckets) r ≡ startBucket
-    → LeastDelay (delay (run fresh before .settings)) n
-    → Provisos r (run fresh before) (after ++ later)
-    → Served (860 + n) (6_379 + n) r (run fresh before) after (run fresh (before ++ (after ++ later)))
+    (start : State) → Fresh start → (before after later : List Event) (r n : ℕ)
+    → bucketOf (run start before .buckets) r ≡ startBucket
+    → LeastDelay (delay (run start before .settings)) n
+    → Provisos r (run start before) (after ++ later)
+    → Served (860 + n) (6_379 + n) r (run start before) after (run start (before ++ (after ++ later)))

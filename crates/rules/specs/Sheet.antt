@@ -151,7 +151,7 @@ unfoldable pub records : State → List Event → List ℕ
 records s [] = []
 records s (e ∷ es) = let o = outcome s e in recordOf o ++ records (o .state) es
 
--- "running it hands back the written front part of the lent output, empty when refused"
+-- "running it hands back the written front part of the lent output, empty when refused"; on the standard fresh unit, since a sheet has no place for a table
 unfoldable pub front : List ℕ → ℕ → List ℕ
 front s room = if eqb (check s room) 0 then records fresh (sheetEvents s) else []
 

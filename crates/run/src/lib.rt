@@ -1,4 +1,4 @@
-// The run of a sheet on a fresh unit (document 01, "Run sheet and rack program"): its settings, its events and their records; and what is exported.
+// The run of a sheet on the standard fresh unit (document 01, "Run sheet and rack program"): its settings, its events and their records; and what is exported.
 // Each contract is an equation with a rule of crates/rules/specs/Sheet.antt; the rule is named above the function.
 ghost use mathlib.Core.Path.{_≡_};
 ghost use Prim.Native.Nat.{ℕ, _*_, _≤_};

@@ -316,15 +316,14 @@ pub struct Unit {
     pub regs: [u8; 27],
 }
 
-// The rule `fresh`.
-pub fn fresh() -> Unit
-    ensures { λ r. ⌜ modelOf r ≡ registers.fresh ⌝ }
+// The rule `freshWith`: a fresh unit with these registers.
+pub fn fresh_with(regs: [u8; 27]) -> Unit
+    ensures { λ r. ⌜ modelOf r ≡ registers.freshWith (settingsFrom regs) ⌝ }
 {
     let m = inputs::fresh_monitors();
     let h = history::fresh_history();
     let choice = selection::settled(0);
     let p = pll::fresh_loop();
-    let regs = registers::fresh_registers();
     Unit {
         monitors: m,
         history: h,
@@ -333,6 +332,13 @@ pub fn fresh() -> Unit
         pll: p,
         regs: regs,
     }
+}
+
+// The rule `fresh`: the standard fresh unit.
+pub fn fresh() -> Unit
+    ensures { λ r. ⌜ modelOf r ≡ registers.fresh ⌝ }
+{
+    fresh_with(registers::fresh_registers())
 }
 
 // The numbers of a whole unit that are in no array.
