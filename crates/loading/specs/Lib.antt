@@ -1,0 +1,2 @@
+-- What the contract of a load cites.
+pub mod Bridge
