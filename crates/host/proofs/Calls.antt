@@ -21,11 +21,11 @@ unitOf s =
     }
 
 -- the fields are no event
-pub no-event : (u : code.Unit) (d : Decoded) {n : ℕ} → bad ≡ d → n ≡ decodedNumber d → Places u → Leads u d n u
+pub no-event : (u : code.Unit) (d : Decoded) {n : ℕ} → bad ≡ d → n ≡ decodedNumber d → Places u → Leads u (given d) n u
 no-event u d e is places = record { rules = rw (is, ← e) refl; left = λ some. refl; places = places }
 
 -- the fields are an event, which was handled
 pub handled : (u : code.Unit) (e : rules.Event) (d : Decoded) (o : Outcome)
-    → event e ≡ d → Gives (partsOf u) e (o .refusal) (partsOf (o .unit)) → Places (o .unit) → Leads u d (o .refusal) (o .unit)
+    → event e ≡ d → Gives (partsOf u) e (o .refusal) (partsOf (o .unit)) → Places (o .unit) → Leads u (given d) (o .refusal) (o .unit)
 handled u e d o is said places =
-    record { rules = said .rules ∙ ap (given (modelOf u)) is; left = λ some. ap unitOf (said .left some); places = places }
+    record { rules = said .rules ∙ ap (λ (x : Decoded). given x (modelOf u)) is; left = λ some. ap unitOf (said .left some); places = places }

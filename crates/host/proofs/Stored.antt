@@ -33,7 +33,8 @@ use denote.Triple.Spec.{tripleOf}
 use denote.Triple.Clauses.{Ended, Clauses, closing}
 use denote.Triple.Walked.{says, Stays, stay-ref, walkOf, AllGo, goes-ref, Walks, ends-at, walked}
 use denote.Exit.{yes}
-use Rattle.rules.specs.Sheet.{Decoded}
+use Rattle.rules.specs.State as rules
+use Rattle.rules.specs.Run as rules′
 use Rattle.host.specs.Lent.{Leads}
 use Rattle.unit.specs.declared.Unit.{Unit as State}
 use Rattle.unit.specs.declared.Outcome.{Outcome}
@@ -63,7 +64,11 @@ module _ (ps : List Param) where
   abbrev stayed : Stays (lent .signature .params) (lent .kept)
   stayed = (stay-ref (0 ∷ []) tt (plain (λ _. T.the-row)), stays (suc (lifetimes ps)) ps 1 (its ps))
 
-  module _ {M : Type 1} (𝓤 : URA M) (d : Data ps → Decoded) where
+  -- what the rules give of the data, in a state
+  abbrev Rules : Type 0
+  Rules = Data ps → rules.State → rules′.Outcome
+
+  module _ {M : Type 1} (𝓤 : URA M) (d : Rules) where
     abbrev leads : Clauses 𝓤 lent
     leads κs a = record {
       ghost = Unit {0};
@@ -82,7 +87,7 @@ module _ (ps : List Param) where
       abbrev pub Shown : Contract 𝓤
       Shown = tripleOf 𝓤 H A (lent .signature) (closing 𝓤 H A lent leads)
 
-module _ {M : Type 1} (𝓤 : URA M) (H : Heap 𝓤) (A : Atoms 𝓤) (W : Given 𝓤 H A) (ps : List Param) (d : Data ps → Decoded) where
+module _ {M : Type 1} (𝓤 : URA M) (H : Heap 𝓤) (A : Atoms 𝓤) (W : Given 𝓤 H A) (ps : List Param) (d : Rules ps) where
   -- at one choice of what the triple binds outside
   module _ (κs : Lfts (suc (lifetimes ps))) (qs : Shares (suc (lifetimes ps))) (a : Args (lent ps .signature) κs) where
     abbrev n : ℕ
@@ -139,9 +144,9 @@ module _ {M : Type 1} (𝓤 : URA M) (H : Heap 𝓤) (A : Atoms 𝓤) (W : Given
       (λ κs qs bounds a g are. via 𝓤 _ (fst∗ 𝓤 _ (emp 𝓤)) (walks-at κs qs a callee C Λ fm met
       (are-typed (suc (lifetimes ps)) κs ps 1 (its ps) (a .1) (are .1))))
 
--- d is what the data say: an event, or none
+-- d is what the rules give of the data
 pub stores : {M : Type 1} (𝓤 : URA M) (H : Heap 𝓤) (𝓜 : Model 𝓤 H) (𝓖 : GhostRules 𝓤 H) (𝓡 : Running 𝓤 H 𝓜) (γ : Env) (ps : List Param)
-    (d : Data ps → Decoded) (self callee : Name) (r : Routine)
+    (d : Rules ps) (self callee : Name) (r : Routine)
     → γ callee ≡ r
     → Triple 𝓤 (𝓡 .run r) (Known ps 𝓤 d H (𝓖 .A))
     → Closed 𝓤 H (tables 𝓤 H 𝓜 𝓡 γ .C) (tables 𝓤 H 𝓜 𝓡 γ .Λ) self (stored (suc (lifetimes ps)) callee (tys ps 1))

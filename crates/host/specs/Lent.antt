@@ -20,14 +20,15 @@ pub record Made (u : code.Unit) : Type 0 where
   pub places : Places u
 
 -- what decoded fields give in state s: the event's outcome, or the number of no event and the state "as before"
-abbrev pub given : State → Decoded → Outcome
-given s (event e) = outcome s e
-given s bad = record { refusal = decodedNumber bad; state = s }
+abbrev pub given : Decoded → State → Outcome
+given (event e) s = outcome s e
+given bad s = record { refusal = decodedNumber bad; state = s }
 
--- What `unit_event`, `unit_set_bucket` and `unit_assign_bucket` say of a call that finds unit u, returns n and leaves unit v, where d is the event that was
--- passed, or none: number and state are the rules', and a call that is turned down leaves the stored unit itself as it was.
-pub record Leads (u : code.Unit) (d : Decoded) (n : ℕ) (v : code.Unit) : Type 0 where
-  pub rules : record { refusal = n; state = modelOf v } ≡ given (modelOf u) d
+-- What `unit_event`, `unit_set_bucket`, `unit_assign_bucket` and `unit_load` say of a call that finds unit u, returns n and leaves unit v, where `gives` is
+-- what the rules give of the event, the call or the table that was passed: number and state are the rules', and a call that is turned down leaves the stored
+-- unit itself as it was.
+pub record Leads (u : code.Unit) (gives : State → Outcome) (n : ℕ) (v : code.Unit) : Type 0 where
+  pub rules : record { refusal = n; state = modelOf v } ≡ gives (modelOf u)
   pub left : (n ≡ 0 → ⊥) → v ≡ u
   pub places : Places v
 

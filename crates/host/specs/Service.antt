@@ -1,6 +1,7 @@
--- Document 01, demands 2 and 3, and requests #102 and #104, of the unit itself: what a host holds that makes a unit and lends it for each event and call.
+-- Document 01, demands 2 and 3, and requests #102, #104 and #105, of the unit itself: what a host holds that makes a unit and lends it for each event and call.
 use Prim.Native.Nat.{ℕ, _+_, _-_, _*_, _^_, _≤_, max}
 use mathlib.Core.Path.{_≡_}
+use mathlib.Core.Logic.{_⊎_}
 use mathlib.Core.Bool.{Bool, true, false}
 use mathlib.Core.List.{List, [], _∷_, _++_}
 use lib.Dec.{leb}
@@ -14,13 +15,14 @@ use Rattle.rules.specs.Registers.{fresh}
 use Rattle.rules.specs.Reading.{read}
 use Rattle.rules.specs.Refusals.{accepted}
 use Rattle.rules.specs.Run.{run}
+use Rattle.rules.specs.Loading.{freshFrom, loading}
 use Rattle.rules.specs.OldHistory.{oldRun}
 use Rattle.rules.specs.Sheet.{Decoded, event, bad, fields}
 use Rattle.rules.specs.Laws.{LeastDelay}
 use Rattle.rules.specs.Service.{Provisos, selectedTicks, readyTicks, acceptedTicks}
 use Rattle.unit.specs.Bridge.{modelOf}
 use Rattle.unit.specs.declared.Unit.{Unit as Stored}
-use Rattle.host.specs.Lent.{Made, Leads, wordOf, Shows}
+use Rattle.host.specs.Lent.{Made, given, Leads, wordOf, Shows}
 
 -- ---- the host
 
@@ -32,13 +34,17 @@ pub data Call : Type 0 where
   ofSet : ℕ → ℕ → ℕ → ℕ → ℕ → Call
   -- `unit_assign_bucket`: the input, and the set
   ofAssign : ℕ → ℕ → Call
+  -- `unit_load`, turned down: the table
+  ofLoad : List ℕ → Call
 
+-- the event that a call is, if any: a load that is turned down is none
 abbrev pub decoded : Call → Decoded
 decoded (ofEvent kind a b word) = fields kind a b word
 decoded (ofSet set size setLevel clearLevel d) = event (setBucket set size setLevel clearLevel d)
 decoded (ofAssign input set) = event (assignBucket input set)
+decoded (ofLoad table) = bad
 
--- the events of a list of calls: a call whose fields are none is not one of them
+-- the events of a list of calls: a call that is no event is not one of them
 unfoldable pub with : Decoded → List Event → List Event
 with (event e) es = e ∷ es
 with bad es = es
@@ -47,16 +53,29 @@ unfoldable pub eventsOf : List Call → List Event
 eventsOf [] = []
 eventsOf (c ∷ cs) = with (decoded c) (eventsOf cs)
 
--- "each event gets the state that the one before it left, and nobody else writes that state in between": from unit u, call by call, to unit v. All that is
--- known of a call is what the contract of its function says of it.
+-- All that is known of a call that finds unit u, returns n and leaves unit w: what the contract of its function says, and of a load that n is not 0. A load
+-- that returns 0 begins another history.
+abbrev pub Answers : Stored → Call → ℕ → Stored → Type 0
+Answers u (ofEvent kind a b word) n w = Leads u (given (fields kind a b word)) n w
+Answers u (ofSet set size setLevel clearLevel d) n w = Leads u (given (event (setBucket set size setLevel clearLevel d))) n w
+Answers u (ofAssign input set) n w = Leads u (given (event (assignBucket input set))) n w
+Answers u (ofLoad table) n w = (n ≡ 0 → ⊥) × Leads u (loading table) n w
+
+-- "each event gets the state that the one before it left, and nobody else writes that state in between": from unit u, call by call, to unit v
 abbrev pub Lent : Stored → List Call → Stored → Type 0
 Lent u [] v = u ≡ v
-Lent u (c ∷ cs) v = (w : Stored) × ((n : ℕ) × (Leads u (decoded c) n w × Lent w cs v))
+Lent u (c ∷ cs) v = (w : Stored) × ((n : ℕ) × (Answers u c n w × Lent w cs v))
 
--- THE HOST HOLDS v AFTER THE LIST es. "The list starts from a fresh unit": what `unit_fresh` returned, by its contract alone, then lent for each call.
-pub record Holds (es : List Event) (v : Stored) : Type 0 where
+-- "The list starts from a fresh unit", and u is that unit: `unit_fresh` returned it, and `start` is the standard one; or any unit was lent to `unit_load` with
+-- a table, it returned 0 and left u, and `start` is the one that the table makes. Both by their contracts alone.
+abbrev pub Begins : State → Stored → Type 0
+Begins start u =
+    ((start ≡ fresh) × Made u) ⊎ ((table : List ℕ) × ((start ≡ freshFrom table) × ((lent : Stored) × Leads lent (loading table) 0 u)))
+
+-- THE HOST HOLDS v AFTER THE LIST es FROM THE FRESH UNIT start: a unit that began there, then lent for each call.
+pub record Holds (start : State) (es : List Event) (v : Stored) : Type 0 where
   pub first : Stored
-  pub made : Made first
+  pub begun : Begins start first
   pub calls : List Call
   pub lent : Lent first calls v
   pub events : eventsOf calls ≡ es
@@ -74,15 +93,15 @@ ownReady u = leb readyBlocks (u .history .tally .count)
 
 -- After every list of events from a fresh unit its state and each register agree with the rules; "the unit's own selected and Ready equal them". #102:
 -- "Agreement with the rules means these rules from now on."
-pub record Agrees (es : List Event) (u : Stored) : Type 0 where
-  pub state : modelOf u ≡ run fresh es
-  pub selected-is : ownSelected u ≡ selected (run fresh es)
-  pub ready-is : ownReady u ≡ Ready (run fresh es)
+pub record Agrees (start : State) (es : List Event) (u : Stored) : Type 0 where
+  pub state : modelOf u ≡ run start es
+  pub selected-is : ownSelected u ≡ selected (run start es)
+  pub ready-is : ownReady u ≡ Ready (run start es)
   -- at each of the 256 addresses, what the published read returns
-  pub register : (address n : ℕ) → Shows u address n → n ≡ wordOf (read (run fresh es) address)
+  pub register : (address n : ℕ) → Shows u address n → n ≡ wordOf (read (run start es) address)
 
 abbrev pub Agreement : Type 0
-Agreement = (es : List Event) (u : Stored) → Holds es u → Agrees es u
+Agreement = (start : State) (es : List Event) (u : Stored) → Holds start es u → Agrees start es u
 
 -- ---- demand 3
 
@@ -98,45 +117,45 @@ pub record UnitServed (toSelected toReady r : ℕ) (s : State) (after : List Eve
 -- stands too.
 abbrev pub UnitPromise : Type 0
 UnitPromise =
-    (before after later : List Event) (r : ℕ) (u : Stored)
-    → Holds (before ++ (after ++ later)) u
-    → Provisos r (run fresh before) (after ++ later)
-    → UnitServed (selectedTicks r (run fresh before)) (readyTicks r (run fresh before)) r (run fresh before) after u
+    (start : State) (before after later : List Event) (r : ℕ) (u : Stored)
+    → Holds start (before ++ (after ++ later)) u
+    → Provisos r (run start before) (after ++ later)
+    → UnitServed (selectedTicks r (run start before)) (readyTicks r (run start before)) r (run start before) after u
 
 -- The same in figures: "n is the least whole number with 4n at least 1,875 times the reversion delay in minutes." #104: r's set at the moment
 -- is S, U, L, d, and "78 + the larger of 782 and (S − L) times 2^d" stands "for its 860, with 5,519 more to Ready".
 abbrev pub UnitPromiseInFigures : Type 0
 UnitPromiseInFigures =
-    (before after later : List Event) (r n size setLevel clearLevel d : ℕ) (u : Stored)
-    → Holds (before ++ (after ++ later)) u
-    → bucketOf (run fresh before .buckets) r ≡ bucketFrom size setLevel clearLevel d
-    → LeastDelay (delay (run fresh before .settings)) n
-    → Provisos r (run fresh before) (after ++ later)
+    (start : State) (before after later : List Event) (r n size setLevel clearLevel d : ℕ) (u : Stored)
+    → Holds start (before ++ (after ++ later)) u
+    → bucketOf (run start before .buckets) r ≡ bucketFrom size setLevel clearLevel d
+    → LeastDelay (delay (run start before .settings)) n
+    → Provisos r (run start before) (after ++ later)
     → let toSelected = 78 + max 782 ((size - clearLevel) * 2 ^ d) + n in
-    UnitServed toSelected (toSelected + 5_519) r (run fresh before) after u
+    UnitServed toSelected (toSelected + 5_519) r (run start before) after u
 
 -- With r's set as the sets start this is document 01's: 860 + n, and 6,379 + n.
 abbrev pub UnitPromiseAtStart : Type 0
 UnitPromiseAtStart =
-    (before after later : List Event) (r n : ℕ) (u : Stored)
-    → Holds (before ++ (after ++ later)) u
-    → bucketOf (run fresh before .buckets) r ≡ startBucket
-    → LeastDelay (delay (run fresh before .settings)) n
-    → Provisos r (run fresh before) (after ++ later)
-    → UnitServed (860 + n) (6_379 + n) r (run fresh before) after u
+    (start : State) (before after later : List Event) (r n : ℕ) (u : Stored)
+    → Holds start (before ++ (after ++ later)) u
+    → bucketOf (run start before .buckets) r ≡ startBucket
+    → LeastDelay (delay (run start before .settings)) n
+    → Provisos r (run start before) (after ++ later)
+    → UnitServed (860 + n) (6_379 + n) r (run start before) after u
 
 -- ---- request #102: the building history, in the unit's own Ready
 
 -- The unit that the host holds is Ready after each list of events after which Ready stood under the old rules.
 abbrev pub UnitNeverLessReady : Type 0
-UnitNeverLessReady = (es : List Event) (u : Stored) → Holds es u → Ready (oldRun fresh es) ≡ true → ownReady u ≡ true
+UnitNeverLessReady = (start : State) (es : List Event) (u : Stored) → Holds start es u → Ready (oldRun start es) ≡ true → ownReady u ≡ true
 
 -- Once it stands, it ends only with an accepted write of 3 to 0x26: u is what the host holds after a list of events, and v after one event more.
 abbrev pub UnitEndsByCommand3 : Type 0
 UnitEndsByCommand3 =
-    (es : List Event) (e : Event) (u v : Stored)
-    → Holds es u
-    → Holds (es ++ e ∷ []) v
+    (start : State) (es : List Event) (e : Event) (u v : Stored)
+    → Holds start es u
+    → Holds start (es ++ e ∷ []) v
     → ownReady u ≡ true
     → ownReady v ≡ false
-    → (e ≡ write 0x26 3) × (accepted (run fresh es) e ≡ true)
+    → (e ≡ write 0x26 3) × (accepted (run start es) e ≡ true)

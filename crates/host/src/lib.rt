@@ -1,11 +1,12 @@
 // The unit's state lent by the host (document 01: "The host owns the unit's state and lends it for each event; the event updates it and touches nothing
-// else"). Five functions are exported to C and Rust; each is thin over a function by value. What stores through the reference that it is lent does so only
+// else"). Six functions are exported to C and Rust; each is thin over a function by value. What stores through the reference that it is lent does so only
 // if the event or the call is accepted.
 ghost use mathlib.Core.Path.{_≡_};
 ghost use Rattle.rules.specs.Events.{setBucket, assignBucket};
+ghost use Rattle.rules.specs.Loading.{loading};
 ghost use Rattle.rules.specs.Sheet as sheet;
 ghost use Rattle.rules.specs.Sheet.{fields};
-ghost use Rattle.host.specs.Lent.{Made, Leads, Shows};
+ghost use Rattle.host.specs.Lent.{Made, given, Leads, Shows};
 use fields::Decoded;
 use unit::Outcome;
 use unit::Unit;
@@ -14,7 +15,7 @@ use unit::Unit;
 
 // One event, given by its fields: their number if they are no event, and the same unit on every refusal.
 pub fn event(u: Unit, kind: u8, a: u8, b: u8, word: i32) -> Outcome
-    ensures { λ r. ⌜ Leads u (fields kind a b word) (r .refusal) (r .unit) ⌝ }
+    ensures { λ r. ⌜ Leads u (given (fields kind a b word)) (r .refusal) (r .unit) ⌝ }
 {
     let d = fields::decode(kind, a, b, word);
     let Decoded::Event(e) = d else {
@@ -28,16 +29,23 @@ pub fn event(u: Unit, kind: u8, a: u8, b: u8, word: i32) -> Outcome
 
 // A set of bucket numbers is set (document 02, #104): size S, set level U, clear level L, and d.
 pub fn set_bucket(u: Unit, set: u8, size: u8, high: u8, low: u8, decay: u8) -> Outcome
-    ensures { λ r. ⌜ Leads u (sheet.event (setBucket set size high low decay)) (r .refusal) (r .unit) ⌝ }
+    ensures { λ r. ⌜ Leads u (given (sheet.event (setBucket set size high low decay))) (r .refusal) (r .unit) ⌝ }
 {
     calls::set_bucket(u, set, size, high, low, decay)
 }
 
 // An input is assigned a set.
 pub fn assign_bucket(u: Unit, input: u8, set: u8) -> Outcome
-    ensures { λ r. ⌜ Leads u (sheet.event (assignBucket input set)) (r .refusal) (r .unit) ⌝ }
+    ensures { λ r. ⌜ Leads u (given (sheet.event (assignBucket input set))) (r .refusal) (r .unit) ⌝ }
 {
     calls::assign_bucket(u, input, set)
+}
+
+// The unit made anew of a table of bytes (document 02, #105).
+pub fn load(u: Unit, table: &[u8]) -> Outcome
+    ensures { λ r. ⌜ Leads u (loading (now (table .entry))) (r .refusal) (r .unit) ⌝ }
+{
+    loading::load(u, table)
 }
 
 // A byte as a 16-bit number.
@@ -57,7 +65,7 @@ pub fn read(u: Unit, address: u8) -> u16
 
 // ---- exported
 
-// A fresh unit.
+// The standard fresh unit.
 #[no_mangle]
 pub extern "C" fn unit_fresh() -> Unit
     ensures { λ r. ⌜ Made r ⌝ }
@@ -68,7 +76,7 @@ pub extern "C" fn unit_fresh() -> Unit
 // One event on a lent unit: the refusal number, 0 if it is accepted. A refusal stores nothing.
 #[no_mangle]
 pub extern "C" fn unit_event(u: &mut Unit, kind: u8, a: u8, b: u8, word: i32) -> u8
-    ensures { λ r. ⌜ Leads (now (u .entry)) (fields kind a b word) r (now (u .exit)) ⌝ }
+    ensures { λ r. ⌜ Leads (now (u .entry)) (given (fields kind a b word)) r (now (u .exit)) ⌝ }
 {
     let o = event(*u, kind, a, b, word);
     if o.refusal == 0 {
@@ -87,7 +95,7 @@ pub extern "C" fn unit_set_bucket(
     clear_level: u8,
     decay: u8,
 ) -> u8
-    ensures { λ r. ⌜ Leads (now (u .entry)) (sheet.event (setBucket set size «set_level» «clear_level» decay)) r (now (u .exit)) ⌝ }
+    ensures { λ r. ⌜ Leads (now (u .entry)) (given (sheet.event (setBucket set size «set_level» «clear_level» decay))) r (now (u .exit)) ⌝ }
 {
     let after = set_bucket(*u, set, size, set_level, clear_level, decay);
     if after.refusal == 0 {
@@ -99,13 +107,25 @@ pub extern "C" fn unit_set_bucket(
 // An input of a lent unit is assigned a set: 6, 14 or 0. A refusal stores nothing.
 #[no_mangle]
 pub extern "C" fn unit_assign_bucket(u: &mut Unit, input: u8, set: u8) -> u8
-    ensures { λ r. ⌜ Leads (now (u .entry)) (sheet.event (assignBucket input set)) r (now (u .exit)) ⌝ }
+    ensures { λ r. ⌜ Leads (now (u .entry)) (given (sheet.event (assignBucket input set))) r (now (u .exit)) ⌝ }
 {
     let given = assign_bucket(*u, input, set);
     if given.refusal == 0 {
         *u = given.unit;
     }
     given.refusal
+}
+
+// A lent unit is made anew of a table of bytes, of any length: 15 or 0. A refusal stores nothing.
+#[no_mangle]
+pub extern "C" fn unit_load(u: &mut Unit, table: &[u8]) -> u8
+    ensures { λ r. ⌜ Leads (now (u .entry)) (loading (now (table .entry))) r (now (u .exit)) ⌝ }
+{
+    let made = load(*u, table);
+    if made.refusal == 0 {
+        *u = made.unit;
+    }
+    made.refusal
 }
 
 // A read of a lent unit.

@@ -3,6 +3,7 @@ use mathlib.Core.List.{[], _∷_}
 use mir.Syntax.{w8}
 use Rattle.rules.specs.Events.{assignBucket}
 use Rattle.rules.specs.Sheet.{event}
+use Rattle.host.specs.Lent.{given}
 use Rattle.host.proofs.Params.{unsigned}
 use Rattle.host.proofs.Stored.{stores}
 use Rattle.host.proofs.assign_bucket.Symbol as callee
@@ -14,5 +15,5 @@ use Rattle.host.proofs.unit_assign_bucket.Code as code
 pub unit-assign-bucket-spec : {M : Type 1} → stated.statement M
 unfolding code.routine
 unit-assign-bucket-spec 𝓤 H 𝓜 𝓖 𝓡 =
-    stores 𝓤 H 𝓜 𝓖 𝓡 code.env (unsigned w8 ∷ unsigned w8 ∷ []) (λ x. event (assignBucket (x .0) (x .1 .0)))
+    stores 𝓤 H 𝓜 𝓖 𝓡 code.env (unsigned w8 ∷ unsigned w8 ∷ []) (λ x. given (event (assignBucket (x .0) (x .1 .0))))
     name callee.name callee.routine code.calls-host·assign-bucket (callee-thm.met 𝓤 H 𝓜 𝓖 𝓡) (code.unfolded 𝓤 H 𝓜 𝓡)

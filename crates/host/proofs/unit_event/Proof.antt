@@ -2,6 +2,7 @@
 use mathlib.Core.List.{[], _∷_}
 use mir.Syntax.{w8, w32}
 use Rattle.rules.specs.Sheet.{fields}
+use Rattle.host.specs.Lent.{given}
 use Rattle.host.proofs.Params.{unsigned, signed}
 use Rattle.host.proofs.Stored.{stores}
 use Rattle.host.proofs.event.Symbol as callee
@@ -13,5 +14,5 @@ use Rattle.host.proofs.unit_event.Code as code
 pub unit-event-spec : {M : Type 1} → stated.statement M
 unfolding code.routine
 unit-event-spec 𝓤 H 𝓜 𝓖 𝓡 =
-    stores 𝓤 H 𝓜 𝓖 𝓡 code.env (unsigned w8 ∷ unsigned w8 ∷ unsigned w8 ∷ signed w32 ∷ []) (λ x. fields (x .0) (x .1 .0) (x .1 .1 .0) (x .1 .1 .1 .0))
+    stores 𝓤 H 𝓜 𝓖 𝓡 code.env (unsigned w8 ∷ unsigned w8 ∷ unsigned w8 ∷ signed w32 ∷ []) (λ x. given (fields (x .0) (x .1 .0) (x .1 .1 .0) (x .1 .1 .1 .0)))
     name callee.name callee.routine code.calls-host·event (callee-thm.met 𝓤 H 𝓜 𝓖 𝓡) (code.unfolded 𝓤 H 𝓜 𝓡)
