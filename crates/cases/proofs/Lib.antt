@@ -3,3 +3,4 @@ pub mod Trials
 pub mod ExampleSheet
 pub mod ExamplePage
 pub mod KeptValue
+pub mod AutomaticStart

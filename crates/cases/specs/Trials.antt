@@ -17,7 +17,7 @@ use Rattle.rules.specs.Table.{Row, _is_, Holds}
 
 -- ---- the words of the table
 
--- what is looked at in the state that some events leave from fresh
+-- what is looked at in the state that some events leave from the standard fresh unit, on which document 01 has its cases
 infix 69 _after_
 abbrev _after_ : {A : Type 0} → (State → A) → List Event → A
 look after events = look (run fresh events)
