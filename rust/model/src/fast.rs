@@ -272,7 +272,10 @@ pub struct Unit {
 
 impl Unit {
     pub fn fresh() -> Unit {
-        let settings = Settings::fresh();
+        Unit::fresh_with(Settings::fresh())
+    }
+
+    fn fresh_with(settings: Settings) -> Unit {
         Unit {
             monitors: Monitors::fresh(),
             sets: Sets::of(Buckets::fresh()),
@@ -284,6 +287,12 @@ impl Unit {
             settings,
             by_priority: by_priority(&settings),
         }
+    }
+
+    /// Makes the unit anew from a table: 0, or 15 and the unit as it was.
+    pub fn load(&mut self, table: &[u8]) -> u8 {
+        let made = Settings::of_table(table).map(Unit::fresh_with);
+        number_of(made.map(|made| *self = made))
     }
 
     /// Takes one event: 0, or the number of its refusal.

@@ -1,7 +1,8 @@
 //! The reference controller of the eight-input timing unit, written plainly
 //! from document 01 and from the requests of document 02. It is compared with
 //! the real controller; it shares no code with it. Sentences in quotation marks
-//! are document 01's, in `buckets`, `pages` and `building` document 02's.
+//! are document 01's, in `buckets`, `building`, `pages` and `tables` document
+//! 02's.
 
 #![forbid(unsafe_code)]
 
@@ -20,6 +21,7 @@ mod refusal;
 mod registers;
 mod selection;
 mod sheet;
+mod tables;
 mod unit;
 
 pub use blocks::{Blocks, OpenBlock, BLOCKS_KEPT, SAMPLES_PER_BLOCK};
@@ -37,4 +39,5 @@ pub use sheet::{
     check, printed, records, run, sheet_of, Record, BYTES_PER_COUNT, BYTES_PER_EVENT,
     BYTES_PER_RECORD, BYTES_PER_SETTING, LONGEST_SHEET, MOST_SETTINGS,
 };
+pub use tables::{table_addresses, BYTES_PER_TABLE, STANDARD_TABLE};
 pub use unit::{OldUnit, Unit, UnitUnder, SAMPLE_LIMIT};

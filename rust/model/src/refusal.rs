@@ -1,5 +1,5 @@
-//! The refusals of an event, a call, a read or a sheet, with the numbers of
-//! "Turned down" and of document 02.
+//! The refusals of an event, a call, a table, a read or a sheet, with the
+//! numbers of "Turned down" and of document 02.
 
 #[derive(Clone, Copy, Debug, PartialEq, Eq)]
 pub enum Refusal {
@@ -32,6 +32,9 @@ pub enum Refusal {
     OutputTooShort = 13,
     /// Document 02, #104: "set out of these bounds or set number over 3"
     NoSuchBucketSet = 14,
+    /// Document 02, #105: "wrong length, a forbidden nonzero, a value above
+    /// Largest or reject − qualification under 6"
+    DoesNotLoad = 15,
 }
 
 impl Refusal {
@@ -40,7 +43,7 @@ impl Refusal {
     }
 }
 
-/// The number that answers an event or a call: 0 if it is accepted.
+/// The number that answers an event, a call or a table: 0 if it is accepted.
 pub(crate) fn number_of(outcome: Result<(), Refusal>) -> u8 {
     match outcome {
         Ok(()) => 0,

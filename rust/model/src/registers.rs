@@ -122,7 +122,7 @@ impl Settings {
         }
         let settings = self.with(register, value);
         // Only a write of one of the two limits can bring them too close.
-        if settings.reject < settings.qualification + LEAST_GAP {
+        if settings.limits_too_close() {
             return Err(Refusal::LimitsTooClose);
         }
         Ok((register, settings))
@@ -146,6 +146,11 @@ impl Settings {
             _ => {}
         }
         self
+    }
+
+    /// "reject − qualification would be under 6"
+    pub(crate) fn limits_too_close(&self) -> bool {
+        self.reject < self.qualification + LEAST_GAP
     }
 
     pub fn automatic(&self) -> bool {

@@ -36,9 +36,14 @@ pub struct UnitUnder<R> {
 }
 
 impl<R: SwitchRules> UnitUnder<R> {
+    /// A fresh unit with the fresh values of document 01.
+    pub fn fresh() -> UnitUnder<R> {
+        UnitUnder::fresh_with(Settings::fresh())
+    }
+
     /// "Fresh: all counts 0, activity alarms clear, frequency alarms set,
     /// selected 0, Free Run."
-    pub fn fresh() -> UnitUnder<R> {
+    fn fresh_with(settings: Settings) -> UnitUnder<R> {
         UnitUnder {
             inputs: [Input::fresh(); 8],
             buckets: Buckets::fresh(),
@@ -47,8 +52,18 @@ impl<R: SwitchRules> UnitUnder<R> {
             wait: Wait::ZERO,
             history: HistoryUnder::fresh(),
             holdover_ticks: 0,
-            settings: Settings::fresh(),
+            settings,
         }
+    }
+
+    /// Document 02, #105: "A fresh unit may be made from 27 bytes". 0, or 15
+    /// and the unit as it was.
+    ///
+    /// Reading: all but the registers is as in any fresh unit, Free Run and
+    /// selected 0 among it, and nothing of the unit before is left.
+    pub fn load(&mut self, table: &[u8]) -> u8 {
+        let made = Settings::of_table(table).map(UnitUnder::fresh_with);
+        number_of(made.map(|made| *self = made))
     }
 
     /// Takes one event: 0, or the number of the refusal that turned it down

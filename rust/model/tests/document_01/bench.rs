@@ -2,6 +2,18 @@
 
 use model::{Event, Unit};
 
+/// The column "Largest", but for the inputs, the command and the qualification
+/// limit.
+pub const LARGEST: [(u8, u8); 7] = [
+    (0x24, 31),
+    (0x25, 1),
+    (0x40, 1),
+    (0x41, 9),
+    (0x42, 255),
+    (0x43, 255),
+    (0x44, 127),
+];
+
 /// Takes events that must be accepted.
 pub fn accept(unit: &mut Unit, event: Event) {
     assert_eq!(unit.event(&event), 0, "{:?} is refused", event);

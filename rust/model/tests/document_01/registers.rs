@@ -21,17 +21,8 @@ fn fresh_values() {
 
 #[test]
 fn an_accepted_write_is_read_back() {
-    let largest = [
-        (0x24, 31),
-        (0x25, 1),
-        (0x40, 1),
-        (0x41, 9),
-        (0x42, 255),
-        (0x43, 255),
-        (0x44, 127),
-    ];
     let mut unit = Unit::fresh();
-    for (address, largest) in largest {
+    for (address, largest) in LARGEST {
         // The reject limit stays 6 above the fresh qualification limit.
         let least = if address == 0x44 { 31 } else { 0 };
         for value in least..=largest {
