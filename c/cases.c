@@ -1,4 +1,4 @@
-/* Document 01's cases A to J ("Marked trials") and cases of document 02's #102 and #104, driven by a host in C through the functions of libhost.a. */
+/* Document 01's cases A to J ("Marked trials") and cases of document 02's #102, #104 and #105, driven by a host in C through the functions of libhost.a. */
 #include "controller.h"
 
 #include <stdio.h>
@@ -200,11 +200,11 @@ static void kept_value(void)
     expect("#102 input 2 is lost: Holdover", state_byte(&u), 0x10);
 }
 
-/* A call's refusal, and that it left every byte as it was, padding too. */
+/* The refusal of a call or of a table, and that it left every byte as it was, padding too. */
 static void expect_refused(const char *what, const struct unit *u, const unsigned char *before, int got, int want)
 {
     expect(what, got, want);
-    expect("#104 and leaves the unit as it was", memcmp(u, before, sizeof *u), 0);
+    expect("  and leaves the unit as it was", memcmp(u, before, sizeof *u), 0);
 }
 
 static void refused_buckets(void)
@@ -247,6 +247,64 @@ static void bucket_sets(void)
     expect("#104 puts input 1 at level 20 again", u.monitors.level[0], 20);
 }
 
+/* The table of a unit that wakes in automatic control: input 2 is preferred, input 1 revertive. */
+enum { TABLE_BYTES = 27 };
+static const uint8_t buyers_own[TABLE_BYTES] = {
+    0xf9, 0, 2, 2, 2, 2, 2, 2, /* 0x1c to 0x23 */
+    0, 0, 0, 0,                /* 0x24 to 0x27 */
+    1, 0, 3, 1, 31, 25,        /* 0x40 to 0x45 */
+    0, 0, 0, 0, 0, 0, 0, 0, 0, /* 0x46 to 0x4e */
+};
+
+static void refused_tables(void)
+{
+    static const struct { const char *what; int place; uint8_t value; } wrong[] = {
+        {"#105 a command gives 15", 0x26 - 0x1c, 3},
+        {"#105 a nonzero for the read-only 0x27 gives 15", 0x27 - 0x1c, 1},
+        {"#105 a nonzero for the read-only 0x46 gives 15", 12 + 0x46 - 0x40, 255},
+        {"#105 a nonzero for the read-only 0x4e gives 15", 12 + 0x4e - 0x40, 1},
+        {"#105 Free Run above 31 gives 15", 0x24 - 0x1c, 32},
+        {"#105 control above 1 gives 15", 12, 2},
+        {"#105 limits 5 apart give 15", 12 + 0x44 - 0x40, 30},
+        {"#105 a reject limit below the other gives 15", 12 + 0x44 - 0x40, 24},
+    };
+    struct unit u = tracking(1);
+    unsigned char before[sizeof u];
+    memcpy(before, &u, sizeof u);
+    uint8_t table[TABLE_BYTES + 1] = {0};
+    memcpy(table, buyers_own, TABLE_BYTES);
+    expect_refused("#105 no byte gives 15", &u, before, unit_load(&u, table, 0), 15);
+    expect_refused("#105 26 bytes give 15", &u, before, unit_load(&u, table, 26), 15);
+    expect_refused("#105 28 bytes give 15", &u, before, unit_load(&u, table, 28), 15);
+    for (size_t i = 0; i < sizeof wrong / sizeof *wrong; i++) {
+        memcpy(table, buyers_own, TABLE_BYTES);
+        table[wrong[i].place] = wrong[i].value;
+        expect_refused(wrong[i].what, &u, before, unit_load(&u, table, TABLE_BYTES), 15);
+    }
+}
+
+/* A unit with a past is made anew, and locks without a write. */
+static void fresh_values(void)
+{
+    struct unit u = tracking(1);
+    ticks(&u, LOCK_TICKS - 1 + (long)READY_BLOCKS * BLOCK_TICKS, 0, 1, 7);
+    unit_set_bucket(&u, 0, 20, 10, 5, 3);
+    expect("#105 a table loads", unit_load(&u, buyers_own, TABLE_BYTES), 0);
+    expect("#105 Free Run, selected 0", state_byte(&u), 0x00);
+    expect("#105 0x1c without its upper bits", unit_read(&u, 0x1c), 9);
+    expect("#105 no longer Ready", ready(&u), 0);
+    expect("#105 the bucket set is the fresh one", u.buckets.sets[0].size, 8);
+    expect("#105 a frequency alarm, as on any fresh unit", frequency_alarm(&u, 1), 1);
+    measure(&u, 1, 0);
+    measure(&u, 2, 0);
+    clean_ticks(&u, SOAK_TICKS - 1);
+    expect("#105 78 clean ticks: 0x48 is 0x00", state_byte(&u), 0x00);
+    clean_ticks(&u, 1);
+    expect("#105 the 79th: 0x22", state_byte(&u), 0x22);
+    ticks(&u, LOCK_TICKS, 0, 1, 0);
+    expect("#105 16 lock ticks: 0x32, and no write has come", state_byte(&u), 0x32);
+}
+
 int main(void)
 {
     activity();
@@ -260,6 +318,8 @@ int main(void)
     kept_value();
     refused_buckets();
     bucket_sets();
-    printf("cases A to J, #102 and #104: %s\n", failures ? "FAILED" : "passed");
+    refused_tables();
+    fresh_values();
+    printf("cases A to J, #102, #104 and #105: %s\n", failures ? "FAILED" : "passed");
     return failures != 0;
 }

@@ -1,11 +1,11 @@
 /* The reference controller of the eight-input timing unit, for a host in C. Three libraries, of which a program links those that it uses:
- *   libhost.a:  unit_fresh, unit_event, unit_read, unit_set_bucket, unit_assign_bucket
+ *   libhost.a:  unit_fresh, unit_load, unit_event, unit_read, unit_set_bucket, unit_assign_bucket
  *   librun.a:   sheet_check, sheet_run
  *   libprint.a: sheet_print
  *
- * The host owns a unit's state. It makes one with unit_fresh, lends it to unit_event for each event, to unit_set_bucket and unit_assign_bucket for other
- * numbers of the activity buckets, and to unit_read for each read, and writes it by nothing else. A tick is 128 ms. Documents 01 and 02 say what each event
- * and call does and what each register shows.
+ * The host owns a unit's state. It makes one with unit_fresh, and may make it anew with fresh values of its own by unit_load; it lends it to unit_event for
+ * each event, to unit_set_bucket and unit_assign_bucket for other numbers of the activity buckets, and to unit_read for each read, and writes it by nothing
+ * else. A tick is 128 ms. Documents 01 and 02 say what each event and call does and what each register shows.
  *
  * The interface is the registers, by unit_read, and the records and pages of a run sheet. The fields of struct unit are for the eye: they may change from one version
  * to the next, and what is said of them here holds of a unit that is kept so.
@@ -146,8 +146,18 @@ CONTROLLER_ASSERT(offsetof(struct unit, holding) == 1696, "offset of holding");
 CONTROLLER_ASSERT(offsetof(struct unit, pll) == 1700, "offset of pll");
 CONTROLLER_ASSERT(offsetof(struct unit, regs) == 1706, "offset of regs");
 
-/* A fresh unit. */
+/* The standard fresh unit: document 01's values in its registers. */
 struct unit unit_fresh(void);
+
+/* Makes the lent unit anew, as a fresh one with the values of the table in its registers: the refusal number, 15 or 0. The unit may hold any bytes before, but
+ * written ones: it need not be one that unit_fresh made.
+ *   table: a byte for each register in address order, 0x1c to 0x27 and then 0x40 to 0x4e; 0 for the command 0x26 and for those that are read only
+ *   len:   27
+ * Bits 7-4 of 0x1c to 0x23 are dropped. All else is as in any fresh unit, bucket sets, history and backup too: it is in Free Run with selected 0, and nothing
+ * is left of the unit as it was.
+ * Another length, a nonzero where 0 has to be, a value above the register's largest, or reject - qualification under 6 give 15. A refusal leaves every byte of
+ * the unit as it was, padding included. Unit and table do not overlap. */
+uint8_t unit_load(struct unit *u, const uint8_t *table, size_t len);
 
 /* One event on the lent unit: the refusal number, 0 if it is accepted. The fields are those of an event of a run sheet:
  *   kind 0, tick:        a irregular mask, b lock flag 0 or 1, word frequency sample in parts per 10^12
@@ -181,8 +191,8 @@ uint16_t unit_read(const struct unit *u, uint8_t address);
 /* Checks a run sheet of len bytes against an output of output_len bytes: its refusal number, 9 to 13, or 0 if it will run. */
 uint8_t sheet_check(const uint8_t *sheet, size_t len, size_t output_len);
 
-/* Runs a sheet on a fresh unit and writes its records at the front of the output, 4 bytes each: how many bytes that is. The bytes after them are unchanged.
- * Sheet and output do not overlap.
+/* Runs a sheet on the standard fresh unit and writes its records at the front of the output, 4 bytes each: how many bytes that is. The bytes after them are
+ * unchanged. Sheet and output do not overlap.
  * A refused sheet gives 0, and so does a sheet without settings and events, which runs and has no records: sheet_check tells the two apart. */
 size_t sheet_run(const uint8_t *sheet, size_t len, uint8_t *output, size_t output_len);
 

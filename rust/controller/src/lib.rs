@@ -127,6 +127,7 @@ extern "C" {
         decay: u8,
     ) -> u8;
     fn unit_assign_bucket(unit: *mut Unit, input: u8, set: u8) -> u8;
+    fn unit_load(unit: *mut Unit, table: *const u8, length: usize) -> u8;
     fn unit_read(unit: *const Unit, address: u8) -> u16;
 }
 
@@ -169,6 +170,18 @@ impl Unit {
         // SAFETY: the pointer is to a whole unit, lent for the call alone; the
         // function takes every value of the other arguments.
         unsafe { unit_assign_bucket(self, input, set) }
+    }
+
+    /// Makes the unit anew, a fresh one with these values of its registers: a
+    /// byte for each in address order, 0x1c to 0x27 and 0x40 to 0x4e, with 0
+    /// for the command and for those that are read only. 15 if the table does
+    /// not load, 0 if it does. A refusal leaves every byte of the unit as it
+    /// was, padding included.
+    pub fn load(&mut self, table: &[u8]) -> u8 {
+        // SAFETY: the pointers are to a whole unit and to as many bytes as the
+        // length says, lent for the call alone; the function takes every length
+        // and every byte.
+        unsafe { unit_load(self, table.as_ptr(), table.len()) }
     }
 
     /// The refusal's number and the byte.

@@ -18,8 +18,8 @@ pub const STATES: [&str; 6] = [
 ];
 
 /// "Turned down", from 1 on; what 13 also means is document 02's, #101, and 14
-/// is of its #104.
-const REASONS: [&str; 14] = [
+/// and 15 are of its #104 and #105.
+const REASONS: [&str; 15] = [
     "address not in the map",
     "write to a read-only register",
     "value above the register's largest",
@@ -34,6 +34,7 @@ const REASONS: [&str; 14] = [
     "kind over 3, lock over 1, or unused field not 0",
     "output under 4 bytes a record, or page output under 1,400 bytes a page",
     "bucket set out of its bounds, or set number over 3",
+    "table not 27 bytes, a forbidden nonzero, a value above the register's largest, or reject - qualification under 6",
 ];
 
 /// The reason of a refusal, by its number from 1.

@@ -100,3 +100,27 @@ fn the_library_takes_bucket_sets() {
     assert_eq!(unit.assign_bucket(8, 4), 14);
     assert_eq!(unit, before);
 }
+
+/// A table that loads, with a byte for each register, and tables that do not,
+/// through the library: all else of the unit is fresh, or as it was.
+#[test]
+fn the_library_takes_tables() {
+    let table = [
+        1, 2, 3, 4, 5, 6, 7, 0xf8, 31, 1, 0, 0, 1, 9, 10, 11, 21, 15, 0, 0, 0, 0, 0, 0, 0, 0, 0,
+    ];
+    let mut regs = table;
+    regs[7] = 8;
+    let mut unit = Unit::fresh();
+    assert_eq!(unit.event(0, 0xff, 0, 0), 0);
+    assert_eq!(unit.set_bucket(3, 20, 10, 5, 3), 0);
+    assert_eq!(unit.load(&table), 0);
+    let other = Unit::fresh();
+    assert_eq!(unit, Unit { regs, ..other });
+    assert_eq!(unit.event(0, 0xff, 0, 0), 0);
+    let before = unit;
+    assert_eq!(unit.load(&[]), 15);
+    assert_eq!(unit.load(&table[..26]), 15);
+    assert_eq!(unit.load(&[0; 27]), 15);
+    assert_eq!(unit.load(&[255; 300]), 15);
+    assert_eq!(unit, before);
+}
