@@ -3,20 +3,25 @@
 
 mod buckets;
 mod histories;
+mod tables;
 
 use crate::report::never_reached;
+use crate::table::Table;
 use model::{
     wait_limit, Call, Event, OldUnit, State, Unit, BLOCKS_KEPT, LOCK_ALARM_TICKS,
     SAMPLES_PER_BLOCK, TICKS_PER_HOUR,
 };
 
-/// An event or a call with the model's state before and after it, and what the
-/// old rules of the history made of it.
+/// An event, a call or a table with the model's state before and after it, and
+/// what the old rules of the history made of it.
 pub struct Moment<'a> {
     pub before: &'a Unit,
-    /// None for a call, and if the fields were no event.
+    /// None for a call and a table, and if the fields were no event.
     pub event: Option<Event>,
     pub call: Option<Call>,
+    pub table: Option<Table>,
+    /// Whether the unit was made from a table, and no write was accepted since.
+    pub unwritten: bool,
     pub refusal: u8,
     pub after: &'a Unit,
     pub old: &'a OldUnit,
@@ -103,14 +108,26 @@ type SingleCondition = fn(&Moment) -> bool;
 struct Item {
     name: String,
     condition: Condition,
-    /// Whether it is of #104, and need not be asked where no bucket set plays a
-    /// part: that saves a quarter of the time.
-    of_buckets: bool,
     count: u64,
 }
 
+impl Item {
+    fn of((name, condition): (String, Condition)) -> Item {
+        Item {
+            name,
+            condition,
+            count: 0,
+        }
+    }
+}
+
+/// The items in parts: those of #104 need not be asked where no bucket set
+/// plays a part, nor those of #105 where no table does. That saves a third of
+/// the time.
 pub struct Coverage {
     items: Vec<Item>,
+    of_buckets: Vec<Item>,
+    of_tables: Vec<Item>,
     pub lists: u64,
     pub events: u64,
     reads: [u64; 256],
@@ -118,29 +135,28 @@ pub struct Coverage {
 
 impl Coverage {
     pub fn empty() -> Coverage {
-        let items = |of_buckets| {
-            move |(name, condition)| Item {
-                name,
-                condition,
-                of_buckets,
-                count: 0,
-            }
-        };
-        let others = conditions().into_iter().map(items(false));
-        let buckets = buckets::conditions().into_iter().map(items(true));
+        let items = |conditions: Vec<_>| conditions.into_iter().map(Item::of).collect();
         Coverage {
-            items: others.chain(buckets).collect(),
+            items: items(conditions()),
+            of_buckets: items(buckets::conditions()),
+            of_tables: items(tables::conditions()),
             lists: 0,
             events: 0,
             reads: [0; 256],
         }
     }
 
+    /// A table is no event: only the items of #105 are asked of it.
     pub fn note(&mut self, moment: &Moment) {
-        let buckets = moment.concerns_buckets();
-        for item in &mut self.items {
-            if (buckets || !item.of_buckets) && (item.condition)(moment) {
-                item.count += 1;
+        let events = moment.table.is_none();
+        for (asked, items) in [
+            (events, &mut self.items),
+            (events && moment.concerns_buckets(), &mut self.of_buckets),
+            (moment.concerns_tables(), &mut self.of_tables),
+        ] {
+            if asked {
+                let reached = items.iter_mut().filter(|item| (item.condition)(moment));
+                reached.for_each(|item| item.count += 1);
             }
         }
     }
@@ -160,7 +176,8 @@ impl Coverage {
 
     /// Each item with its count; the last is the reading of all addresses.
     pub fn counts(&self) -> Vec<(&str, u64)> {
-        let items = self.items.iter();
+        let items = self.items.iter().chain(&self.of_buckets);
+        let items = items.chain(&self.of_tables);
         let mut counts: Vec<_> = items.map(|item| (item.name.as_str(), item.count)).collect();
         let least = self.reads.iter().copied().min().unwrap_or(0);
         counts.push(("reads of the least read of all 256 addresses", least));
@@ -173,7 +190,7 @@ impl Coverage {
     }
 }
 
-/// The items but those of the bucket sets, each with its condition.
+/// The items but those of the bucket sets and tables, each with its condition.
 fn conditions() -> Vec<(String, Condition)> {
     let writable = (0x1c..=0x26).chain(0x40..=0x45);
     let mut list = Vec::new();

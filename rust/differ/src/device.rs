@@ -1,8 +1,9 @@
-//! What is compared: anything that takes events and calls and reads as the
-//! controller does.
+//! What is compared: anything that takes events, calls and tables and reads as
+//! the controller does.
 
 use crate::fields::Fields;
 use crate::sent::Sent;
+use crate::table::Table;
 use model::Call;
 
 /// `Clone` and `PartialEq` are there to see that a refusal leaves the whole
@@ -19,6 +20,9 @@ pub trait Device: Clone + PartialEq {
     /// The refusal's number, 0 if accepted.
     fn call(&mut self, call: Call) -> u8;
 
+    /// The refusal's number, 0 if the device is made anew from the table.
+    fn load(&mut self, table: Table) -> u8;
+
     /// The refusal's number and the byte.
     fn read(&self, address: u8) -> (u8, u8);
 
@@ -27,6 +31,7 @@ pub trait Device: Clone + PartialEq {
         match sent {
             Sent::Fields(Fields { kind, a, b, word }) => self.event(kind, a, b, word),
             Sent::Call(call) => self.call(call),
+            Sent::Load(table) => self.load(table),
         }
     }
 }
@@ -46,6 +51,10 @@ impl Device for model::Unit {
 
     fn call(&mut self, call: Call) -> u8 {
         model::Unit::call(self, &call)
+    }
+
+    fn load(&mut self, table: Table) -> u8 {
+        model::Unit::load(self, &table.bytes())
     }
 
     fn read(&self, address: u8) -> (u8, u8) {
@@ -78,6 +87,10 @@ impl Device for controller::Unit {
             ),
             Call::AssignBucket { input, set } => self.assign_bucket(input, set),
         }
+    }
+
+    fn load(&mut self, table: Table) -> u8 {
+        controller::Unit::load(self, &table.bytes())
     }
 
     fn read(&self, address: u8) -> (u8, u8) {

@@ -16,7 +16,7 @@ pub enum Mismatch {
         model: (u8, u8),
         device: (u8, u8),
     },
-    /// A refused event or call changed the state of the one named.
+    /// A refused event, call or table changed the state of the one named.
     Changed {
         name: &'static str,
     },
@@ -76,8 +76,8 @@ impl Name {
 #[derive(Clone, Debug, PartialEq, Eq)]
 pub struct Difference {
     pub name: Name,
-    /// The event or call after which it showed, and its index from 0; none if
-    /// the fresh units already differ.
+    /// The event, call or table after which it showed, and its index from 0;
+    /// none if the fresh units already differ.
     pub last: Option<(u64, Sent)>,
     pub mismatch: Mismatch,
 }

@@ -1,4 +1,8 @@
-//! Single events, or fields that are none, and calls, drawn at random.
+//! Single events, or fields that are none, calls and tables, drawn at random.
+
+mod tables;
+
+pub use tables::{refused_table, table, waking_table};
 
 use crate::fields::Fields;
 use crate::sent::Sent;
@@ -28,13 +32,14 @@ pub fn out_of_range_tick(random: &mut Random) -> Event {
     }
 }
 
-/// An event or a call that does not disturb the course of a list: one to be
-/// refused, or a command 0 or 1.
+/// What does not disturb the course of a list: an event, a call or a table to
+/// be refused, or a command 0 or 1.
 pub fn stray(random: &mut Random) -> Sent {
-    if random.one_in(8) {
-        return refused_call(random).into();
+    match random.below(16) {
+        0 | 1 => refused_call(random).into(),
+        2 => refused_table(random).into(),
+        _ => stray_event(random).into(),
     }
-    stray_event(random).into()
 }
 
 fn stray_event(random: &mut Random) -> Fields {

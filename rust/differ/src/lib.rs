@@ -1,5 +1,5 @@
-//! The differential test: random lists of events and calls sent to the model
-//! and to a device, their answers compared after each.
+//! The differential test: random lists of events, calls and tables sent to the
+//! model and to a device, their answers compared after each.
 
 #![forbid(unsafe_code)]
 
@@ -16,3 +16,4 @@ pub mod run;
 pub mod scenarios;
 pub mod sent;
 pub mod shrink;
+pub mod table;

@@ -1,5 +1,5 @@
-//! One list of events and calls on its way: sent to the pair one by one, the
-//! answers compared, what was reached noted.
+//! One list of events, calls and tables on its way: sent to the pair one by
+//! one, the answers compared, what was reached noted.
 
 use crate::coverage::{Coverage, Moment};
 use crate::device::Device;
@@ -7,6 +7,7 @@ use crate::difference::{Difference, Mismatch, Name};
 use crate::draw;
 use crate::pair::Pair;
 use crate::sent::Sent;
+use crate::table::Table;
 use model::{BucketSet, Call, Event, Unit, SAMPLE_LIMIT};
 use shared::random::Random;
 
@@ -49,9 +50,11 @@ pub struct List<'a, D> {
     pub habits: Habits,
     pair: Pair<D>,
     name: Name,
-    /// How many events and calls were sent, and the last of them.
+    /// How many events, calls and tables were sent, and the last of them.
     sent: u64,
     last: Option<Sent>,
+    /// Whether the unit was made from a table, and no write was accepted since.
+    unwritten: bool,
     coverage: &'a mut Coverage,
     record: Option<Vec<Sent>>,
 }
@@ -70,6 +73,7 @@ impl<'a, D: Device> List<'a, D> {
             name,
             sent: 0,
             last: None,
+            unwritten: false,
             coverage,
             record: None,
         }
@@ -97,8 +101,8 @@ impl<'a, D: Device> List<'a, D> {
         self.sent
     }
 
-    /// Sends an event's fields or a call to both, compares, notes what was
-    /// reached.
+    /// Sends an event's fields, a call or a table to both, compares, notes what
+    /// was reached.
     pub fn send(&mut self, sent: impl Into<Sent>) -> Step {
         let sent = sent.into();
         if let Some(record) = &mut self.record {
@@ -107,10 +111,15 @@ impl<'a, D: Device> List<'a, D> {
         self.sent += 1;
         self.last = Some(sent);
         let refusal = self.compare(sent).map_err(|found| self.difference(found))?;
+        if refusal == 0 {
+            self.unwritten = sent.table().is_some() || self.unwritten && !is_write(sent);
+        }
         self.coverage.note(&Moment {
             before: &self.pair.model_before,
             event: sent.event(),
             call: sent.call(),
+            table: sent.table(),
+            unwritten: self.unwritten,
             refusal,
             after: &self.pair.model,
             old: &self.pair.old,
@@ -187,6 +196,10 @@ impl<'a, D: Device> List<'a, D> {
         self.send(Call::AssignBucket { input, set })
     }
 
+    pub fn load(&mut self, table: Table) -> Step {
+        self.send(table)
+    }
+
     pub fn measure(&mut self, input: u8, offset: i8) -> Step {
         self.event(Event::Measurement { input, offset })
     }
@@ -199,4 +212,8 @@ impl<'a, D: Device> List<'a, D> {
     pub fn change_samples(&mut self) {
         self.habits.samples = self.random.pick(&SAMPLE_RANGES);
     }
+}
+
+fn is_write(sent: Sent) -> bool {
+    matches!(sent.event(), Some(Event::Write { .. }))
 }

@@ -1,5 +1,5 @@
-//! The model and a device side by side, each event, each call and each read
-//! given to both; beside them the unit under the old rules of the history, for
+//! The model and a device side by side, each event, call, table and read given
+//! to both; beside them the unit under the old rules of the history, for
 //! what #102 says of Ready.
 
 use crate::device::Device;
@@ -44,8 +44,8 @@ impl<D: Device> Pair<D> {
         }
     }
 
-    /// Gives the event or call to both. They must answer alike, and if they
-    /// refuse it both must be as before. The common answer is returned.
+    /// Gives the event, call or table to both. They must answer alike, and if
+    /// they refuse it both must be as before. The common answer is returned.
     pub fn send(&mut self, sent: Sent) -> Result<u8, Mismatch> {
         self.model_before = self.model.clone();
         self.device_before = self.device.clone();
@@ -61,21 +61,24 @@ impl<D: Device> Pair<D> {
         self.old_refusal = match sent {
             Sent::Fields(Fields { kind, a, b, word }) => self.old.event_fields(kind, a, b, word),
             Sent::Call(call) => self.old.call(&call),
+            Sent::Load(table) => self.old.load(&table.bytes()),
         };
-        self.compare_ready(sent)?;
+        self.compare_ready(sent, model)?;
         Ok(model)
     }
 
     /// "Over the same list from fresh, Ready stands after each event after
     /// which it stood under the old rules, and once standing it ends only by
-    /// command 3." The device's Ready is compared with that of the old rules.
-    fn compare_ready(&self, sent: Sent) -> Result<(), Mismatch> {
+    /// command 3." The device's Ready is compared with that of the old rules. A
+    /// table that loads starts a new list from fresh.
+    fn compare_ready(&self, sent: Sent, refusal: u8) -> Result<(), Mismatch> {
         let stands = shows_ready(&self.device);
         if self.old.ready() && !stands {
             return Err(Mismatch::LessReady);
         }
         let ended = shows_ready(&self.device_before) && !stands;
-        if ended && sent.event() != Some(COMMAND_3) {
+        let loaded = sent.table().is_some() && refusal == 0;
+        if ended && !loaded && sent.event() != Some(COMMAND_3) {
             return Err(Mismatch::ReadyEnded);
         }
         Ok(())

@@ -1,9 +1,12 @@
 //! The phases of which the lists are made: each does one kind of thing to the
-//! unit, with random details. Those with calls are in `buckets`.
+//! unit, with random details. Those with calls are in `buckets`, those that
+//! load tables in `tables`.
 
 mod buckets;
+mod tables;
 
 pub use buckets::{any_calls, bucket_levels, call_while_soaking, other_bucket_sets};
+pub use tables::{live_without_a_write, load_a_table, refused_tables};
 
 use crate::device::Device;
 use crate::draw;

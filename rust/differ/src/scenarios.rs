@@ -12,7 +12,17 @@ type Phase<'a, D> = fn(&mut List<'a, D>) -> Step;
 fn phases<'a, D: Device>() -> Vec<(u32, Phase<'a, D>)> {
     let mut phases = event_phases();
     phases.extend(call_phases());
+    phases.extend(table_phases());
     phases
+}
+
+/// Those that load tables, or try to.
+fn table_phases<'a, D: Device>() -> [(u32, Phase<'a, D>); 3] {
+    [
+        (2, load_a_table),
+        (2, live_without_a_write),
+        (3, refused_tables),
+    ]
 }
 
 /// Those with calls.
@@ -75,10 +85,14 @@ const STARTS: [(u32, (Start, u64)); 7] = [
     (1, (Start::LongWait, 5_000)),
 ];
 
-/// A list of mixed phases.
+/// A list of mixed phases. One in three begins with a table.
 pub fn mixed_list<D: Device>(list: &mut List<D>) -> Step {
     list.read_all()?;
     other_habits(list)?;
+    if list.random.one_in(3) {
+        load_a_table(list)?;
+        list.read_all()?;
+    }
     let (start, length) = list.random.weighted(&STARTS);
     match start {
         Start::Anyhow => {}
@@ -122,7 +136,7 @@ pub fn long_list<D: Device>(list: &mut List<D>) -> Step {
     list.read_all()
 }
 
-/// Phases until this many events and calls are sent.
+/// Phases until this many events, calls and tables are sent.
 fn mix_phases<D: Device>(list: &mut List<D>, length: u64) -> Step {
     mix(list, &phases(), length)
 }

@@ -1,31 +1,41 @@
-//! What is sent to a unit: the fields of an event, or a call of #104.
+//! What is sent to a unit: the fields of an event, a call of #104, or a table
+//! of #105 to be loaded.
 
 use crate::fields::Fields;
-use model::{BucketSet, Call, Event};
+use crate::table::Table;
+use model::{BucketSet, Call, Event, BYTES_PER_TABLE};
 use std::fmt;
 
 /// So many plainer forms there are at most.
-pub const PLAINER_FORMS: usize = 3;
+pub const PLAINER_FORMS: usize = 2 + BYTES_PER_TABLE;
 
 #[derive(Clone, Copy, Debug, PartialEq, Eq)]
 pub enum Sent {
     Fields(Fields),
     Call(Call),
+    Load(Table),
 }
 
 impl Sent {
-    /// None for a call, and for fields that are no event.
+    /// None for a call and a table, and for fields that are no event.
     pub fn event(&self) -> Option<Event> {
         match self {
             Sent::Fields(fields) => fields.event(),
-            Sent::Call(_) => None,
+            Sent::Call(_) | Sent::Load(_) => None,
         }
     }
 
     pub fn call(&self) -> Option<Call> {
         match *self {
-            Sent::Fields(_) => None,
             Sent::Call(call) => Some(call),
+            Sent::Fields(_) | Sent::Load(_) => None,
+        }
+    }
+
+    pub fn table(&self) -> Option<Table> {
+        match *self {
+            Sent::Load(table) => Some(table),
+            Sent::Fields(_) | Sent::Call(_) => None,
         }
     }
 
@@ -49,6 +59,7 @@ impl Sent {
                 Call::AssignBucket { input: 1, set }.into(),
                 Call::AssignBucket { input, set: 0 }.into(),
             ],
+            Sent::Load(table) => table.plainer().into_iter().map(Sent::Load).collect(),
         }
     }
 }
@@ -71,6 +82,12 @@ impl From<Call> for Sent {
     }
 }
 
+impl From<Table> for Sent {
+    fn from(table: Table) -> Sent {
+        Sent::Load(table)
+    }
+}
+
 impl fmt::Display for Sent {
     fn fmt(&self, f: &mut fmt::Formatter) -> fmt::Result {
         match *self {
@@ -83,6 +100,7 @@ impl fmt::Display for Sent {
             Sent::Call(Call::AssignBucket { input, set }) => {
                 write!(f, "assign bucket input {} set {}", input, set)
             }
+            Sent::Load(table) => write!(f, "load {}", table),
         }
     }
 }

@@ -1,5 +1,5 @@
-//! A shorter list with a difference: the events and calls of a list are left
-//! out, or made plainer, as long as the difference stays.
+//! A shorter list with a difference: the events, calls and tables of a list are
+//! left out, or made plainer, as long as the difference stays.
 
 use crate::coverage::Coverage;
 use crate::device::Device;
@@ -54,7 +54,7 @@ impl<D: Device> Shrink<'_, D> {
         );
     }
 
-    /// Tries the plainer forms of each event and call.
+    /// Tries the plainer forms of each event, call and table.
     fn make_plainer(&mut self) {
         for form in 0..PLAINER_FORMS {
             let mut index = 0;

@@ -2,6 +2,8 @@
 //! promise's ticks reached exactly, the soak over a call, and every number in
 //! each place of the calls. Each is asked of the model alone too.
 
+#[path = "devices/bench.rs"]
+mod bench;
 #[cfg(feature = "controller")]
 #[path = "devices/held.rs"]
 mod held;
@@ -9,75 +11,21 @@ mod held;
 #[path = "devices/inspected.rs"]
 mod inspected;
 
+use bench::{Bench, TO_READY};
 use differ::device::Device;
-use differ::pair::Pair;
-use differ::sent::Sent;
-use model::{wait_limit, BucketSet, Call, Event, Unit, LOCK_ALARM_TICKS, SOAK_TICKS};
+use model::{wait_limit, BucketSet, Call, Unit, LOCK_ALARM_TICKS, SOAK_TICKS};
 
-/// The ticks from selected to Ready: 16 of lock, the last of them with the first
-/// sample of 43 blocks of 128.
-const TO_READY: u32 = 15 + 43 * 128;
 /// The reference of the promise, and another.
 const R: u8 = 1;
 const OTHER: u8 = 2;
 
-/// A device and the model, which must agree in each answer and register.
-struct Bench<D> {
-    pair: Pair<D>,
-}
-
 impl<D: Device> Bench<D> {
-    fn fresh(make: &D) -> Bench<D> {
-        let pair = Pair::fresh(make);
-        Bench { pair }
-    }
-
-    /// The common answer; a refusal must leave both as they were.
-    fn send(&mut self, sent: impl Into<Sent>) -> u8 {
-        let sent = sent.into();
-        let outcome = self.pair.send(sent);
-        let refusal = outcome.unwrap_or_else(|found| panic!("{}: {}", sent, found));
-        if let Err(found) = self.pair.read_map() {
-            panic!("{}: {}", sent, found);
-        }
-        refusal
-    }
-
-    fn accept(&mut self, sent: impl Into<Sent>) {
-        let sent = sent.into();
-        assert_eq!(self.send(sent), 0, "{}", sent);
-    }
-
-    fn write(&mut self, address: u8, value: u8) {
-        self.accept(Event::Write { address, value });
-    }
-
-    fn measure(&mut self, input: u8) {
-        self.accept(Event::Measurement { input, offset: 0 });
-    }
-
-    fn ticks(&mut self, count: u32, mask: u8, lock: bool) {
-        let sample = 0;
-        for _ in 0..count {
-            self.accept(Event::Tick { mask, lock, sample });
-        }
-    }
-
-    fn clean_ticks(&mut self, count: u32) {
-        self.ticks(count, 0, true);
-    }
-
     fn set(&mut self, set: u8, numbers: BucketSet) {
         self.accept(Call::SetBucket { set, numbers });
     }
 
     fn assign(&mut self, input: u8, set: u8) {
         self.accept(Call::AssignBucket { input, set });
-    }
-
-    /// The model's, whose registers are the device's.
-    fn unit(&self) -> &Unit {
-        &self.pair.model
     }
 
     fn qualified(&self) -> bool {
@@ -157,20 +105,6 @@ fn sets() -> [BucketSet; 8] {
     ]
 }
 
-/// From the moment: R is not selected before tick `first`, and from then on is;
-/// Ready stands from 5,519 ticks later, and not before.
-fn expect_service<D: Device>(bench: &mut Bench<D>, first: u32) {
-    bench.clean_ticks(first - 1);
-    assert_ne!(bench.unit().selected, R, "before tick {}", first);
-    bench.clean_ticks(1);
-    assert_eq!(bench.unit().selected, R, "tick {}", first);
-    bench.clean_ticks(TO_READY - 1);
-    assert!(!bench.unit().ready());
-    bench.clean_ticks(1);
-    assert!(bench.unit().ready());
-    assert_eq!(bench.unit().selected, R);
-}
-
 /// Automatic control, this delay, the other reference revertive and behind R.
 fn promised<D: Device>(make: &D, delay: u8) -> Bench<D> {
     let mut bench = Bench::fresh(make);
@@ -192,7 +126,7 @@ fn check_calls<D: Device>(make: &D) {
             bench.measure(R);
             bench.set(3, set);
             bench.assign(R, 3);
-            expect_service(&mut bench, soaked);
+            bench.expect_service(R, soaked);
 
             let mut bench = promised(make, delay);
             bench.measure(OTHER);
@@ -201,7 +135,7 @@ fn check_calls<D: Device>(make: &D) {
             bench.measure(R);
             bench.assign(R, 2);
             bench.set(2, set);
-            expect_service(&mut bench, soaked + wait_limit(delay));
+            bench.expect_service(R, soaked + wait_limit(delay));
         }
     }
 }
@@ -226,7 +160,7 @@ fn check_lock_alarm<D: Device>(make: &D) {
         bench.set(1, set);
         bench.assign(R, 1);
         let larger = ticks_to_clear(set).max(u32::from(LOCK_ALARM_TICKS));
-        expect_service(&mut bench, 78 + larger);
+        bench.expect_service(R, 78 + larger);
     }
 }
 

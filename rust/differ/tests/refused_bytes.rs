@@ -1,6 +1,6 @@
-//! A refused event or call leaves every byte of the unit's memory as it was,
-//! padding included: the unit is held as bytes, and these are lent to the C
-//! functions.
+//! A refused event, call or table leaves every byte of the unit's memory as it
+//! was, padding included: the unit is held as bytes, and these are lent to the
+//! C functions.
 #![cfg(feature = "controller")]
 
 #[path = "devices/held.rs"]
@@ -11,6 +11,7 @@ use differ::coverage::Coverage;
 use differ::fields::Fields;
 use differ::run::{names, run_lists};
 use differ::sent::Sent;
+use differ::table::Table;
 use held::{Held, PADDING, SIZE};
 use model::{BucketSet, Call};
 use shared::random::Random;
@@ -114,6 +115,26 @@ const fn assign(input: u8, set: u8) -> Sent {
     Sent::Call(Call::AssignBucket { input, set })
 }
 
+/// Tables that no unit is made from.
+fn refused_tables() -> [Table; 7] {
+    let standard = Table::STANDARD;
+    [
+        standard.of_length(0),
+        standard.of_length(26),
+        standard.of_length(28),
+        standard.with(0x26, 1),
+        standard.with(0x48, 255),
+        standard.with(0x41, 10),
+        standard.with(0x44, 30),
+    ]
+}
+
+/// All that a fresh unit refuses, with the number.
+fn refused() -> Vec<(u8, Sent)> {
+    let tables = refused_tables().map(|table| (15, Sent::Load(table)));
+    REFUSED.into_iter().chain(tables).collect()
+}
+
 /// Events and calls that a fresh unit refuses, with the number.
 const REFUSED: [(u8, Sent); 25] = [
     (1, event(3, 0x00, 1, 0)),
@@ -146,14 +167,14 @@ const REFUSED: [(u8, Sent); 25] = [
 #[test]
 fn each_refusal_leaves_the_bytes_of_a_fresh_unit() {
     let mut held = Held::fresh_unit();
-    for (number, sent) in REFUSED {
+    for (number, sent) in refused() {
         assert_eq!(held.send(sent), (number, true));
     }
 }
 
-/// The numbers of the refusals of events and calls.
+/// The numbers of the refusals of events, calls and tables.
 fn numbers() -> impl Iterator<Item = u8> {
-    (1..=8).chain([12, 14])
+    (1..=8).chain([12, 14, 15])
 }
 
 /// Any bytes, a third of them 0 and a third small: most are a unit that no
@@ -169,15 +190,16 @@ fn any_unit(random: &mut Random) -> Held {
 #[test]
 fn each_refusal_leaves_the_bytes_of_any_unit() {
     let mut random = Random::new(SEED);
-    let mut refused = BTreeSet::new();
+    let refused = refused();
+    let mut found = BTreeSet::new();
     for _ in 0..ANY_UNITS {
         let mut held = any_unit(&mut random);
-        let (_, sent) = random.pick(&REFUSED);
+        let (_, sent) = random.pick(&refused);
         let (number, unchanged) = held.send(sent);
         assert!(number == 0 || unchanged, "{} changes a byte", number);
-        refused.insert(number);
+        found.insert(number);
     }
-    assert!(numbers().all(|number| refused.contains(&number)));
+    assert!(numbers().all(|number| found.contains(&number)));
 }
 
 #[test]
@@ -187,12 +209,12 @@ fn each_refusal_leaves_the_bytes_in_random_lists() {
     let outcome = run_lists(&Held::fresh_unit(), lists, &mut coverage);
     assert_eq!(outcome.map_err(|found| found.to_string()), Ok(()));
     for number in numbers() {
-        let name = format!("events refused with {}", number);
+        let names = ["events", "tables"].map(|what| format!("{} refused with {}", what, number));
         let mut counts = coverage.counts().into_iter();
         assert!(
-            counts.any(|(item, count)| item == name && count > 0),
+            counts.any(|(item, count)| names.iter().any(|name| name == item) && count > 0),
             "{}",
-            name
+            names[0]
         );
     }
 }

@@ -5,6 +5,7 @@
 //! model, and of models that are wrong for one delay.
 
 use differ::device::Device;
+use differ::table::Table;
 use model::{wait_limit, Call, Event, Unit, SOAK_TICKS};
 
 /// More ticks than the longest wait takes.
@@ -147,6 +148,10 @@ impl Device for Wrong {
 
     fn call(&mut self, call: Call) -> u8 {
         self.unit.call(&call)
+    }
+
+    fn load(&mut self, table: Table) -> u8 {
+        self.unit.load(&table.bytes())
     }
 
     fn read(&self, address: u8) -> (u8, u8) {

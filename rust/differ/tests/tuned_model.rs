@@ -1,15 +1,16 @@
-//! The tuned model against the plain one: after each event and call of random
-//! lists the whole state is the same.
+//! The tuned model against the plain one: after each event, call and table of
+//! random lists the whole state is the same.
 
 use differ::coverage::Coverage;
 use differ::device::Device;
 use differ::run::{names, run_lists};
+use differ::table::Table;
 use model::{fast, Blocks, Call, Event, History, Input, OpenBlock, Unit};
 
 const SEED: u64 = 3;
 
-/// The tuned model with a plain one beside it. An event or call after which
-/// they do not agree is answered by a refusal that there is not.
+/// The tuned model with a plain one beside it. An event, call or table after
+/// which they do not agree is answered by a refusal that there is not.
 #[derive(Clone, PartialEq)]
 struct Beside {
     tuned: fast::Unit,
@@ -93,6 +94,13 @@ impl Device for Beside {
     fn call(&mut self, call: Call) -> u8 {
         self.plain.call(&call);
         let refusal = self.tuned.call(&call);
+        self.answer(refusal)
+    }
+
+    fn load(&mut self, table: Table) -> u8 {
+        let table = table.bytes();
+        self.plain.load(&table);
+        let refusal = self.tuned.load(&table);
         self.answer(refusal)
     }
 

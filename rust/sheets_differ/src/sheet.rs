@@ -119,8 +119,8 @@ fn most_events(settings: u32) -> u32 {
 
 /// The events of a list of the differ, as many as the sheet is to have. The
 /// list begins with writes, which become the settings. Fields that are no
-/// event, and the calls among the strays, which are all refused, leave the unit
-/// and are left out.
+/// event, and the calls and tables among the strays, which are all refused,
+/// leave the unit and are left out.
 fn sheet_of_size(random: &mut Random, size: &Size) -> Sheet {
     let mut coverage = Coverage::empty();
     let make = Unit::fresh();

@@ -5,6 +5,7 @@ use controller::Unit;
 use differ::device::Device;
 use differ::fields::Fields;
 use differ::sent::Sent;
+use differ::table::Table;
 use model::Call;
 use std::mem::size_of;
 
@@ -23,6 +24,7 @@ extern "C" {
         decay: u8,
     ) -> u8;
     fn unit_assign_bucket(unit: *mut u8, input: u8, set: u8) -> u8;
+    fn unit_load(unit: *mut u8, table: *const u8, length: usize) -> u8;
 }
 
 /// A unit as the bytes that it takes, aligned as it must be.
@@ -63,8 +65,9 @@ impl Held {
         self.fill_padding();
         let before = self.bytes;
         let unit = self.bytes.as_mut_ptr();
-        // SAFETY: the pointer is to the bytes of a unit, lent for the call
-        // alone; the functions take every value of the other arguments.
+        // SAFETY: the pointers are to the bytes of a unit and of a table, lent
+        // for the call alone; the functions take every value of the other
+        // arguments.
         let refusal = unsafe {
             match sent {
                 Sent::Fields(Fields { kind, a, b, word }) => unit_event(unit, kind, a, b, word),
@@ -75,6 +78,10 @@ impl Held {
                 }
                 Sent::Call(Call::AssignBucket { input, set }) => {
                     unit_assign_bucket(unit, input, set)
+                }
+                Sent::Load(table) => {
+                    let table = table.bytes();
+                    unit_load(unit, table.as_ptr(), table.len())
                 }
             }
         };
@@ -101,6 +108,10 @@ impl Device for Held {
 
     fn call(&mut self, call: Call) -> u8 {
         self.take(call.into())
+    }
+
+    fn load(&mut self, table: Table) -> u8 {
+        self.take(table.into())
     }
 
     fn take(&mut self, sent: Sent) -> u8 {

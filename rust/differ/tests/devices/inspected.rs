@@ -3,10 +3,11 @@
 
 use controller::Set;
 use differ::device::Device;
+use differ::table::Table;
 use model::{Blocks, BucketSet, Call};
 
-/// The controller with a model beside it. An event or call after which their
-/// fields do not agree is answered by a refusal that there is not.
+/// The controller with a model beside it. An event, call or table after which
+/// their fields do not agree is answered by a refusal that there is not.
 #[derive(Clone, PartialEq)]
 pub struct Inspected {
     controller: controller::Unit,
@@ -111,6 +112,13 @@ impl Device for Inspected {
     fn call(&mut self, call: Call) -> u8 {
         let refusal = Device::call(&mut self.controller, call);
         self.model.call(&call);
+        self.answer(refusal)
+    }
+
+    fn load(&mut self, table: Table) -> u8 {
+        let table = table.bytes();
+        let refusal = self.controller.load(&table);
+        self.model.load(&table);
         self.answer(refusal)
     }
 

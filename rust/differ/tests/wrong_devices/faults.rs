@@ -1,6 +1,6 @@
-//! The faults: each alters the answer to an event, to a call or to a read, or
-//! the state that is left. Those of the history are in `histories`, those of the
-//! bucket sets in `buckets`.
+//! The faults: each alters the answer to an event, a call, a table or a read,
+//! or the state that is left. Those of the history are in `histories`, those of
+//! the bucket sets in `buckets`, those of the tables in `tables`.
 
 use differ::fields::Fields;
 use model::{wait_limit, Call, Event, State, Unit, Wait};
@@ -9,6 +9,7 @@ pub struct Fault {
     pub name: &'static str,
     pub event: fn(&mut Unit, Fields) -> u8,
     pub call: fn(&mut Unit, Call) -> u8,
+    pub load: fn(&mut Unit, &[u8]) -> u8,
     pub read: fn(&Unit, u8) -> (u8, u8),
     pub needs_long_list: bool,
 }
@@ -17,6 +18,7 @@ pub const NO_FAULT: Fault = Fault {
     name: "none",
     event: right_event,
     call: right_call,
+    load: right_load,
     read: right_read,
     needs_long_list: false,
 };
@@ -27,6 +29,10 @@ pub fn right_event(unit: &mut Unit, fields: Fields) -> u8 {
 
 pub fn right_call(unit: &mut Unit, call: Call) -> u8 {
     unit.call(&call)
+}
+
+pub fn right_load(unit: &mut Unit, table: &[u8]) -> u8 {
+    unit.load(table)
 }
 
 fn right_read(unit: &Unit, address: u8) -> (u8, u8) {
@@ -45,6 +51,14 @@ pub const fn in_call(name: &'static str, call: fn(&mut Unit, Call) -> u8) -> Fau
     Fault {
         name,
         call,
+        ..NO_FAULT
+    }
+}
+
+pub const fn in_load(name: &'static str, load: fn(&mut Unit, &[u8]) -> u8) -> Fault {
+    Fault {
+        name,
+        load,
         ..NO_FAULT
     }
 }
@@ -75,6 +89,11 @@ pub fn then(unit: &mut Unit, fields: Fields, alter: impl Fn(&Unit, &mut Unit)) -
 /// As `then`, for a call.
 pub fn then_after_call(unit: &mut Unit, call: Call, alter: impl Fn(&Unit, &mut Unit)) -> u8 {
     alter_after(unit, |unit| right_call(unit, call), alter)
+}
+
+/// As `then`, for a table.
+pub fn then_after_load(unit: &mut Unit, table: &[u8], alter: impl Fn(&Unit, &mut Unit)) -> u8 {
+    alter_after(unit, |unit| right_load(unit, table), alter)
 }
 
 fn alter_after(

@@ -4,13 +4,16 @@
 mod buckets;
 mod faults;
 mod histories;
+mod tables;
 
 use differ::coverage::Coverage;
 use differ::device::Device;
 use differ::difference::{Difference, Mismatch};
 use differ::fields::Fields;
 use differ::run::{names, run_lists};
+use differ::sent::Sent;
 use differ::shrink::Shrink;
+use differ::table::Table;
 use faults::Fault;
 use model::{Call, Unit};
 
@@ -53,6 +56,10 @@ impl Device for Wrong {
         (self.fault.call)(&mut self.unit, call)
     }
 
+    fn load(&mut self, table: Table) -> u8 {
+        (self.fault.load)(&mut self.unit, &table.bytes())
+    }
+
     fn read(&self, address: u8) -> (u8, u8) {
         (self.fault.read)(&self.unit, address)
     }
@@ -63,6 +70,7 @@ fn all_faults() -> impl Iterator<Item = &'static Fault> {
         .iter()
         .chain(histories::FAULTS)
         .chain(buckets::FAULTS)
+        .chain(tables::FAULTS)
 }
 
 fn fault(name: &str) -> &'static Fault {
@@ -134,4 +142,18 @@ fn a_difference_is_repeated_and_shortened() {
     // The measurement -128 after or instead of a clearing one, and the ticks
     // of a soak.
     assert!(shrink.events.len() <= 81, "{:#?}", shrink.lines());
+}
+
+/// Of a table no more is left than what the fault is about.
+#[test]
+fn a_table_is_made_plainer() {
+    for (name, table) in [
+        ("2 let stand at 0x40", Table::STANDARD.with(0x40, 2)),
+        ("26 bytes load", Table::STANDARD.of_length(26)),
+    ] {
+        let wrong = Wrong::with(fault(name));
+        let difference = difference(wrong.fault, 100, 0).expect(name);
+        let shrink = Shrink::of(&wrong, difference.name).expect(name);
+        assert_eq!(shrink.events, [Sent::Load(table)]);
+    }
 }
