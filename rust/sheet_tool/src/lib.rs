@@ -1,11 +1,13 @@
 //! The sheet tool: a run sheet made from a readable text, shown as that text,
-//! run, printed, and drawn; a text with calls of the host is run and drawn. Every answer comes from the controller's exported
-//! functions; none of its rules is written here again.
+//! run, printed, and drawn; a text with calls of the host, or with a table of
+//! fresh values, is run and drawn. Every answer comes from the controller's
+//! exported functions; none of its rules is written here again.
 
 #![forbid(unsafe_code)]
 
 pub mod arguments;
 pub mod event;
+pub mod fresh;
 pub mod help;
 pub mod make;
 pub mod output;

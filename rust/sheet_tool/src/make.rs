@@ -10,17 +10,19 @@ pub use fault::Fault;
 use crate::script::Script;
 use crate::sheet::Sheet;
 use assembly::{Aim, Assembly};
-use statement::{names_a_call, statement};
+use statement::{is_for_a_host, statement};
 
-/// The sheet that the text says. A call is a fault; others are told first.
+/// The sheet that the text says. A table or a call is a fault; others are told
+/// first.
 pub fn make(text: &[u8]) -> Result<Sheet, Fault> {
     script(text)?.into_sheet()
 }
 
-/// What the text says, statement by statement: a sheet, if it has no calls.
+/// What the text says, statement by statement: a sheet, if it has no table and
+/// no calls.
 pub fn script(text: &[u8]) -> Result<Script, Fault> {
     let text = characters(text)?;
-    let aim = match text.lines().any(names_a_call) {
+    let aim = match text.lines().any(is_for_a_host) {
         true => Aim::Host,
         false => Aim::Sheet,
     };

@@ -1,6 +1,7 @@
-//! What is run: a run sheet, or the steps of a text with calls, for which a
-//! sheet has no place.
+//! What is run: a run sheet, or the steps of a text with a table or with calls,
+//! for which a sheet has no place.
 
+use crate::fresh::fresh;
 use crate::make::Fault;
 use crate::records::{run, Timed};
 use crate::sheet::Sheet;
@@ -16,13 +17,23 @@ pub enum Script {
 /// The steps that a host takes, the settings as writes in front.
 #[derive(Clone, Debug, PartialEq, Eq)]
 pub struct Host {
+    /// The values that the unit is made from before the first step: a table
+    /// that loads.
+    pub table: Option<Vec<u8>>,
     pub steps: Vec<Step>,
-    /// Why it is no sheet, with the line of the first call.
+    /// Why it is no sheet, with the line of the table or of the first call.
     pub no_sheet: Fault,
 }
 
+impl Host {
+    /// The unit as it is made, and then after each step.
+    pub fn moments(&self) -> Vec<Moment> {
+        stepped(fresh(self.table.as_deref()), self.steps.iter().copied())
+    }
+}
+
 impl Script {
-    /// The sheet, or the call that it has no place for.
+    /// The sheet, or the table or call that it has no place for.
     pub fn into_sheet(self) -> Result<Sheet, Fault> {
         match self {
             Script::Sheet(sheet) => Ok(sheet),
@@ -30,12 +41,12 @@ impl Script {
         }
     }
 
-    /// The records: a sheet's by the run of the sheet, a text's with calls by
-    /// the host's functions, step by step.
+    /// The records: a sheet's by the run of the sheet, all others by the host's
+    /// functions, step by step.
     pub fn records(&self) -> Vec<Timed> {
         match self {
             Script::Sheet(sheet) => run(sheet),
-            Script::Host(host) => timed(&stepped(host.steps.iter().copied())),
+            Script::Host(host) => timed(&host.moments()),
         }
     }
 
@@ -44,7 +55,7 @@ impl Script {
     pub fn moments(&self) -> Result<Vec<Moment>, String> {
         match self {
             Script::Sheet(sheet) => moments(sheet, &run(sheet)),
-            Script::Host(host) => Ok(stepped(host.steps.iter().copied())),
+            Script::Host(host) => Ok(host.moments()),
         }
     }
 }

@@ -16,9 +16,8 @@ pub struct Moment {
     pub call: Option<Call>,
 }
 
-/// The fresh unit, and then the unit after each step.
-pub fn stepped(steps: impl Iterator<Item = Step>) -> Vec<Moment> {
-    let mut unit = Unit::fresh();
+/// The unit, and then as it is after each step.
+pub fn stepped(mut unit: Unit, steps: impl Iterator<Item = Step>) -> Vec<Moment> {
     let mut moments = vec![moment(&unit, 0, 0, None)];
     let mut ticks = 0;
     for step in steps {
@@ -32,7 +31,7 @@ pub fn stepped(steps: impl Iterator<Item = Step>) -> Vec<Moment> {
 /// The moments of a sheet; or the first record of its run that the stepped unit
 /// does not agree with.
 pub fn moments(sheet: &Sheet, records: &[Timed]) -> Result<Vec<Moment>, String> {
-    let moments = stepped(sheet.steps().map(Step::Event));
+    let moments = stepped(Unit::fresh(), sheet.steps().map(Step::Event));
     for (index, (moment, timed)) in moments.iter().skip(1).zip(records).enumerate() {
         if moment.record != timed.record {
             return Err(difference(index, timed.record, moment.record));

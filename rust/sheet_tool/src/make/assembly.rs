@@ -1,31 +1,35 @@
-//! The script as its statements come: the order of settings and events, repeated
-//! groups, and the limits, which are checked before anything grows.
+//! The script as its statements come: the order of table, settings and events,
+//! repeated groups, and the limits, which are checked before anything grows.
 
 use super::fault::Fault;
 use super::field::GROUP_DEPTH;
 use super::statement::Statement;
+use crate::fresh::{loading, Entry, TABLE};
 use crate::script::{Host, Script};
 use crate::sheet::{length, write, Setting, Sheet};
 use crate::step::{Call, Step};
 use sheets::{LONGEST_SHEET, MOST_SETTINGS};
 
-/// So many records a text with calls gives at most: 35 hours of ticks.
+/// So many records a text for a host gives at most: 35 hours of ticks.
 const MOST_STEPS: usize = 1_000_000;
 
 /// What the text is to become, which decides its limits.
 #[derive(Clone, Copy, Debug, PartialEq, Eq)]
 pub enum Aim {
     Sheet,
-    /// The text has calls.
+    /// The text has a table or calls.
     Host,
 }
 
 pub struct Assembly {
     aim: Aim,
+    table: Vec<Entry>,
+    /// Whether a statement other than the table has come.
+    begun: bool,
     settings: Vec<Setting>,
     steps: Vec<Step>,
-    /// The first call, and its line.
-    call: Option<(usize, Call)>,
+    /// The line and the word of the first statement that is for a host alone.
+    for_host: Option<(usize, &'static str)>,
     /// The repeats that have no end yet, the innermost last.
     open: Vec<Group>,
 }
@@ -41,22 +45,26 @@ impl Assembly {
     pub fn of(aim: Aim) -> Assembly {
         Assembly {
             aim,
+            table: vec![],
+            begun: false,
             settings: vec![],
             steps: vec![],
-            call: None,
+            for_host: None,
             open: vec![],
         }
     }
 
     /// Adds the statement of this line, or says why it cannot be added.
     pub fn take(&mut self, line: usize, statement: Statement) -> Result<(), String> {
+        self.begun |= !matches!(statement, Statement::Nothing | Statement::Table { .. });
         match statement {
             Statement::Nothing => Ok(()),
+            Statement::Table { values } => self.add_to_table(line, &values),
             Statement::Settings { count, setting } => self.set(count, setting),
             Statement::Steps { count, step } => {
                 self.need_room(count)?;
                 self.steps.extend(std::iter::repeat(step).take(count));
-                self.call = self.call.or(step.call().map(|call| (line, call)));
+                self.note_for_host(line, step.call().map(Call::word));
                 Ok(())
             }
             Statement::Repeat { count } => self.begin(line, count),
@@ -72,22 +80,27 @@ impl Assembly {
                 reason: "this repeat has no end".to_string(),
             });
         }
-        let (line, call) = match self.call {
+        let (line, word) = match self.for_host {
             None => return Ok(Script::Sheet(self.sheet())),
-            Some(call) => call,
+            Some(first) => first,
+        };
+        let table = match &self.table[..] {
+            [] => None,
+            entries => Some(loading(entries)?),
         };
         let reason = format!(
             "a run sheet has no place for {}; run and picture take it",
-            call.word()
+            word
         );
         let settings = self.settings.iter().map(write).map(Step::Event);
         Ok(Script::Host(Host {
+            table,
             steps: settings.chain(self.steps).collect(),
             no_sheet: Fault { line, reason },
         }))
     }
 
-    /// The sheet of a text without calls.
+    /// The sheet of a text without table and calls.
     fn sheet(self) -> Sheet {
         let event = |step: Step| match step {
             Step::Event(event) => Some(event),
@@ -97,6 +110,21 @@ impl Assembly {
             settings: self.settings,
             events: self.steps.into_iter().filter_map(event).collect(),
         }
+    }
+
+    fn add_to_table(&mut self, line: usize, values: &[u8]) -> Result<(), String> {
+        if self.begun {
+            return Err("a table after another statement; it stands before all others".to_string());
+        }
+        let entry = |&value| Entry { line, value };
+        self.table.extend(values.iter().map(entry));
+        self.note_for_host(line, Some(TABLE));
+        Ok(())
+    }
+
+    /// Keeps the first word that is for a host alone.
+    fn note_for_host(&mut self, line: usize, word: Option<&'static str>) {
+        self.for_host = self.for_host.or(word.map(|word| (line, word)));
     }
 
     fn set(&mut self, count: usize, setting: Setting) -> Result<(), String> {

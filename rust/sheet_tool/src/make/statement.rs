@@ -5,6 +5,7 @@ use super::field::{
     SET_LEVEL, SIZE, VALUE,
 };
 use crate::event::Event;
+use crate::fresh::TABLE;
 use crate::sheet::Setting;
 use crate::step::{Call, Step};
 use controller::{HIT, MEASUREMENT, TICK, WRITE};
@@ -12,6 +13,7 @@ use controller::{HIT, MEASUREMENT, TICK, WRITE};
 #[derive(Clone, Debug, PartialEq, Eq)]
 pub enum Statement {
     Nothing,
+    Table { values: Vec<u8> },
     Settings { count: usize, setting: Setting },
     Steps { count: usize, step: Step },
     Repeat { count: usize },
@@ -24,6 +26,7 @@ pub fn statement(line: &str) -> Result<Statement, String> {
     let words: Vec<&str> = words(line).collect();
     match words[..] {
         [] => Ok(Statement::Nothing),
+        [TABLE, ref rest @ ..] => table(rest),
         ["repeat", ref rest @ ..] => {
             let [count] = fields("repeat", [COUNT], rest)?;
             let count = count as usize;
@@ -38,9 +41,10 @@ pub fn statement(line: &str) -> Result<Statement, String> {
     }
 }
 
-/// Whether the line has a call's word, be the statement whole or not.
-pub fn names_a_call(line: &str) -> bool {
-    words(line).any(|word| Call::WORDS.contains(&word))
+/// Whether the line has the word of a table or a call, be the statement whole
+/// or not.
+pub fn is_for_a_host(line: &str) -> bool {
+    words(line).any(|word| word == TABLE || Call::WORDS.contains(&word))
 }
 
 fn words(line: &str) -> impl Iterator<Item = &str> {
@@ -55,7 +59,9 @@ fn begins_a_number(word: &str) -> bool {
 /// The word that a count stands in front of, and what follows it.
 fn after_count<'a>(count: &str, rest: &'a [&'a str]) -> Result<(&'a str, &'a [&'a str]), String> {
     match rest {
-        ["x", word @ ("repeat" | "end"), ..] => Err(format!("{} takes no count in front", word)),
+        ["x", word @ (TABLE | "repeat" | "end"), ..] => {
+            Err(format!("{} takes no count in front", word))
+        }
         ["x", word, rest @ ..] => Ok((word, rest)),
         ["x"] => Err("a statement is missing after the count".to_string()),
         _ => Err(format!(
@@ -63,6 +69,17 @@ fn after_count<'a>(count: &str, rest: &'a [&'a str]) -> Result<(&'a str, &'a [&'
             shortened(count)
         )),
     }
+}
+
+/// Values of the table: one or more.
+fn table(words: &[&str]) -> Result<Statement, String> {
+    if words.is_empty() {
+        return Err(missing(TABLE, &VALUE));
+    }
+    let values = words.iter().map(|word| VALUE.read(word));
+    let values = values.map(|value| value.map(|value| value as u8));
+    let values = values.collect::<Result<_, _>>()?;
+    Ok(Statement::Table { values })
 }
 
 /// A setting, an event or a call, so many times.
@@ -122,10 +139,14 @@ fn call(word: &str, rest: &[&str]) -> Result<Call, String> {
 
 fn unknown(word: &str) -> String {
     format!(
-        "unknown word \"{}\"; a statement is setting, tick, measurement, hit, write, bucket, \
-         assign, repeat or end",
+        "unknown word \"{}\"; a statement is table, setting, tick, measurement, hit, write, \
+         bucket, assign, repeat or end",
         shortened(word)
     )
+}
+
+fn missing(statement: &str, field: &Field) -> String {
+    format!("{} needs {}", statement, field.name)
 }
 
 /// The numbers of a statement's fields, each within its width; no field may be
@@ -137,9 +158,7 @@ fn fields<const N: usize>(
 ) -> Result<[i64; N], String> {
     let mut numbers = [0; N];
     for (index, field) in fields.iter().enumerate() {
-        let word = words
-            .get(index)
-            .ok_or_else(|| format!("{} needs {}", statement, field.name))?;
+        let word = words.get(index).ok_or_else(|| missing(statement, field))?;
         numbers[index] = field.read(word)?;
     }
     match words.get(N) {

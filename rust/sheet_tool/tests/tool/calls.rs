@@ -1,33 +1,18 @@
 //! Texts with calls of the host: what they may say, their runs and pictures,
 //! and that no sheet is made of them.
 
-use crate::files::{absent, present, read};
-use crate::process::{sheet, sheet_with, Outcome};
+use crate::hosts::{check_fault, check_no_sheet, host};
+use crate::process::sheet_with;
 use crate::random;
 use crate::same_records::check_host;
 use crate::xml::texts;
+use controller::Unit;
 use shared::random::Random;
 use sheet_tool::make::{make, script, Fault};
 use sheet_tool::records::run;
-use sheet_tool::script::{timed, Host, Script};
+use sheet_tool::script::{timed, Host};
 use sheet_tool::step::{Call, Step};
 use sheet_tool::stepped::stepped;
-use std::path::Path;
-
-/// What a text with calls says.
-fn host(text: &str) -> Host {
-    match script(text.as_bytes()) {
-        Ok(Script::Host(host)) => host,
-        other => panic!("{:?}", other),
-    }
-}
-
-#[track_caller]
-fn check_fault(text: &str, line: usize, reason: &str) {
-    let fault = script(text.as_bytes()).expect_err("a fault");
-    let reason = reason.to_string();
-    assert_eq!(fault, Fault { line, reason }, "{}", text);
-}
 
 #[test]
 fn the_statements() {
@@ -130,26 +115,8 @@ fn the_run_follows_the_calls() {
 
 #[test]
 fn no_sheet_is_made() {
-    let text = b"hit\n\n2 x assign 1 2\nbucket 0 8 6 4 1\n";
-    let file = present("calls.txt", text);
-    let output = absent("calls-output");
-    for command in ["make", "show", "page"] {
-        let reason = "3: a run sheet has no place for assign; run and picture take it";
-        let failed = Outcome::failed(1, &format!("{}:{}", file, reason));
-        assert_eq!(sheet(&[command, &file]), failed);
-        assert_eq!(sheet(&[command, &file, "-o", &output]), failed);
-        assert!(!Path::new(&output).exists());
-    }
-    let (line, reason) = (
-        1,
-        "a run sheet has no place for bucket; run and picture take it",
-    );
-    let reason = reason.to_string();
-    assert_eq!(make(b"bucket 0 8 6 4 1"), Err(Fault { line, reason }));
-    for command in ["run", "picture"] {
-        assert_eq!(sheet(&[command, &file, "-o", &output]).text(), "");
-        assert!(!read(&output).is_empty());
-    }
+    check_no_sheet("hit\n\n2 x assign 1 2\nbucket 0 8 6 4 1\n", 3, "assign");
+    check_no_sheet("bucket 0 8 6 4 1", 1, "bucket");
 }
 
 /// A text without calls is run as a sheet; the host's functions give the same
@@ -160,7 +127,8 @@ fn a_text_without_calls_has_the_same_records_by_the_hosts_functions() {
     for _ in 0..200 {
         let events = random.below(400) as usize;
         let sheet = random::sheet(&mut random, 10, events);
-        let by_host = timed(&stepped(sheet.steps().map(Step::Event)));
+        let steps = sheet.steps().map(Step::Event);
+        let by_host = timed(&stepped(Unit::fresh(), steps));
         assert_eq!(by_host, run(&sheet));
     }
 }
@@ -193,7 +161,12 @@ fn calls_in_random_texts() {
             line: 1,
             reason: String::new(),
         };
-        check_host(&Host { steps, no_sheet });
+        let table = None;
+        check_host(&Host {
+            table,
+            steps,
+            no_sheet,
+        });
     }
 }
 

@@ -12,7 +12,13 @@ pub fn examples() -> Vec<String> {
 /// The files of the folder `examples` with this ending, by their names without
 /// it.
 pub fn examples_with(ending: &str) -> Vec<String> {
-    let entries = fs::read_dir(repository("examples")).expect("the examples");
+    names_in("examples", ending)
+}
+
+/// The files of a folder of the repository with this ending, by their names
+/// without it.
+pub fn names_in(folder: &str, ending: &str) -> Vec<String> {
+    let entries = fs::read_dir(repository(folder)).expect("a folder of the repository");
     let name = |entry: io::Result<fs::DirEntry>| {
         let name = entry.expect("an entry").file_name();
         let name = name.into_string().expect("a name in UTF-8");

@@ -5,6 +5,8 @@ mod commands;
 mod examples;
 mod faults;
 mod files;
+mod fresh_values;
+mod hosts;
 mod outputs;
 mod pages;
 mod pictures;

@@ -1,7 +1,7 @@
 //! The pictures: those in `docs/pictures` are what the tool makes, and every
 //! picture is well-formed and has its rows.
 
-use crate::files::{example, examples, read_text, repository};
+use crate::files::{example, examples, names_in, read_text, repository};
 use crate::process::sheet;
 use crate::random;
 use crate::xml::texts;
@@ -11,14 +11,6 @@ use sheet_tool::picture::picture;
 use sheet_tool::records::run;
 use sheet_tool::sheet::Sheet;
 use sheet_tool::stepped::moments;
-
-const COMMITTED: [&str; 5] = [
-    "all-clocks-lost",
-    "first-lock",
-    "kept-value",
-    "lock-alarm",
-    "reversion-with-delay",
-];
 
 fn drawn(title: &str, sheet: &Sheet) -> String {
     let moments = moments(sheet, &run(sheet)).expect("no difference");
@@ -40,8 +32,10 @@ fn check(svg: &str) -> Vec<&str> {
 
 #[test]
 fn the_pictures_of_the_repository_are_the_tools() {
-    for name in COMMITTED {
-        let made = sheet(&["picture", &example(name, "txt")]).text();
+    let names = names_in("docs/pictures", ".svg");
+    assert!(!names.is_empty());
+    for name in names {
+        let made = sheet(&["picture", &example(&name, "txt")]).text();
         let committed = read_text(&repository(&format!("docs/pictures/{}.svg", name)));
         assert!(made == committed, "docs/pictures/{}.svg is another", name);
     }

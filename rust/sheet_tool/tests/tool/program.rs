@@ -37,6 +37,7 @@ fn help_says_it_all() {
         "--text",
         "--force",
         ".txt",
+        "table",
         "setting",
         "tick",
         "measurement",

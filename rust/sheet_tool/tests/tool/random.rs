@@ -1,5 +1,6 @@
-//! Random sheets, each from its seed alone: settings and events of all kinds, in
-//! runs of equal ones, also such as the unit turns down.
+//! Random sheets and tables, each from its seed alone: settings and events of
+//! all kinds, in runs of equal ones, also such as the unit turns down; tables
+//! that load.
 
 use controller::{HIT, MEASUREMENT, TICK, WRITE};
 use shared::random::Random;
@@ -13,6 +14,23 @@ pub fn sheet(random: &mut Random, settings: usize, events: usize) -> Sheet {
         settings: in_runs(random, settings, setting),
         events: in_runs(random, events, event),
     }
+}
+
+/// A table that loads, of a unit in automatic control more often than not.
+pub fn table(random: &mut Random) -> Vec<u8> {
+    let mut table = vec![0; 27];
+    for value in &mut table[..8] {
+        *value = random.byte();
+    }
+    table[8] = random.pick(&[0, 0, 0x11, 0x1f]);
+    table[9] = random.below(2) as u8;
+    table[12] = random.pick(&[0, 1, 1]);
+    table[13] = random.below(10) as u8;
+    table[14] = random.byte() | random.byte();
+    table[15] = random.below(2) as u8;
+    table[17] = random.below(122) as u8;
+    table[16] = table[17] + 6 + random.below(122 - u32::from(table[17])) as u8;
+    table
 }
 
 /// So many items: half of the runs are of one, a few of many.

@@ -1,6 +1,6 @@
 //! A sheet's records are those of the independent model, and of a unit that is
-//! stepped through the sheet by the host's functions; a text's with calls are
-//! the model's too.
+//! stepped through the sheet by the host's functions; a text's with a table or
+//! with calls are the model's too.
 
 use model::{BucketSet, Unit};
 use sheet_tool::event::Event;
@@ -8,7 +8,7 @@ use sheet_tool::records::{run, Timed};
 use sheet_tool::script::{timed, Host};
 use sheet_tool::sheet::Sheet;
 use sheet_tool::step::{Call, Step};
-use sheet_tool::stepped::{moments, stepped};
+use sheet_tool::stepped::moments;
 
 pub fn check(sheet: &Sheet) {
     let records = run(sheet);
@@ -19,16 +19,19 @@ pub fn check(sheet: &Sheet) {
     assert_eq!(timed(&moments), records);
 }
 
-/// The records of a text with calls.
+/// The records of a text with a table or with calls.
 pub fn check_host(host: &Host) {
     let mut unit = Unit::fresh();
+    if let Some(table) = &host.table {
+        assert_eq!(unit.load(table), 0);
+    }
     let record = |&step: &Step| {
         let refusal = given_to_the_model(&mut unit, step);
         let [state, qualified, status] = [0x48, 0x46, 0x49].map(|address| unit.read(address).1);
         [refusal, state, qualified, status]
     };
     let model: Vec<model::Record> = host.steps.iter().map(record).collect();
-    compare(&timed(&stepped(host.steps.iter().copied())), &model);
+    compare(&timed(&host.moments()), &model);
 }
 
 fn compare(records: &[Timed], model: &[model::Record]) {

@@ -1,0 +1,98 @@
+//! The unit that a run begins with: document 01's fresh unit, or one that is
+//! made from the table of fresh values in front of a text. Whether a table
+//! loads, and which of its values are at fault, the controller is asked.
+
+use crate::make::Fault;
+use crate::registers;
+use controller::{reason, Unit};
+
+/// The word of the statement.
+pub const TABLE: &str = "table";
+
+/// A value of a table, and the line of the text that it stands in.
+#[derive(Clone, Copy, Debug, PartialEq, Eq)]
+pub struct Entry {
+    pub line: usize,
+    pub value: u8,
+}
+
+/// The fresh unit; with a table, one that is made from it, if that loads.
+pub fn fresh(table: Option<&[u8]>) -> Unit {
+    let mut unit = Unit::fresh();
+    if let Some(table) = table {
+        unit.load(table);
+    }
+    unit
+}
+
+/// The values of a table that loads; or the line of the first that is at fault,
+/// and what is wrong.
+pub fn loading(entries: &[Entry]) -> Result<Vec<u8>, Fault> {
+    let values: Vec<u8> = entries.iter().map(|entry| entry.value).collect();
+    let refusal = Unit::fresh().load(&values);
+    if refusal == 0 {
+        return Ok(values);
+    }
+    let places = places_at_fault(&values);
+    let first = places.first().copied();
+    let line = first.map_or(entries.last(), |place| entries.get(place));
+    Err(Fault {
+        line: line.map_or(1, |entry| entry.line),
+        reason: format!(
+            "table refused with {}: {} ({})",
+            refusal,
+            reason(refusal),
+            told(&values, &places)
+        ),
+    })
+}
+
+/// The values at fault by their registers, or, if there are none, the length.
+fn told(values: &[u8], places: &[usize]) -> String {
+    let names: Vec<_> = registers::all().map(|(_, name)| name).collect();
+    let value = |&place: &usize| format!("{} {}", names[place], values[place]);
+    match places {
+        [] => format!("length {}", values.len()),
+        places => places.iter().map(value).collect::<Vec<_>>().join(", "),
+    }
+}
+
+/// The places whose values do not load, each alone in a table that else does;
+/// and the two limits, if they do not load together. None if the length is
+/// wrong.
+fn places_at_fault(values: &[u8]) -> Vec<usize> {
+    let others = others();
+    if values.len() != others.len() {
+        return vec![];
+    }
+    let at_fault = |places: &[usize]| {
+        let mut table = others.clone();
+        places
+            .iter()
+            .for_each(|&place| table[place] = values[place]);
+        Unit::fresh().load(&table) != 0
+    };
+    let mut places: Vec<_> = (0..values.len())
+        .filter(|&place| at_fault(&[place]))
+        .collect();
+    let limits = ["reject", "qualification"].map(place);
+    if at_fault(&limits) && !limits.iter().any(|limit| places.contains(limit)) {
+        places.extend(limits);
+        places.sort_unstable();
+    }
+    places
+}
+
+/// A table that loads, with limits that are as far apart as can be, so that
+/// each can be tried alone.
+fn others() -> Vec<u8> {
+    let mut table = vec![0; registers::all().count()];
+    table[place("reject")] = 127;
+    table
+}
+
+/// The place of a register in a table.
+fn place(name: &str) -> usize {
+    let place = registers::all().position(|register| register.1 == name);
+    place.expect("a register's name")
+}
