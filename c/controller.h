@@ -149,8 +149,8 @@ CONTROLLER_ASSERT(offsetof(struct unit, regs) == 1706, "offset of regs");
 /* The standard fresh unit: document 01's values in its registers. */
 struct unit unit_fresh(void);
 
-/* Makes the lent unit anew, as a fresh one with the values of the table in its registers: the refusal number, 15 or 0. The unit may hold any bytes before, but
- * written ones: it need not be one that unit_fresh made.
+/* Makes the lent unit anew, as a fresh one with the values of the table in its registers: the refusal number, 15 or 0. What the unit held before plays no
+ * part: it need not be one that unit_fresh made, but its bytes must have been written.
  *   table: a byte for each register in address order, 0x1c to 0x27 and then 0x40 to 0x4e; 0 for the command 0x26 and for those that are read only
  *   len:   27
  * Bits 7-4 of 0x1c to 0x23 are dropped. All else is as in any fresh unit, bucket sets, history and backup too: it is in Free Run with selected 0, and nothing
