@@ -59,7 +59,7 @@ kept : (lead : List Event) (k : ℕ) → Provisos 1 (moment lead) (ticks k)
     → Served (selectedTicks 1 (moment lead)) (readyTicks 1 (moment lead)) 1 (moment lead) (ticks k) (run fresh (lead ++ ticks k))
 kept lead k met =
     subst (λ es. Served (selectedTicks 1 (moment lead)) (readyTicks 1 (moment lead)) 1 (moment lead) (ticks k) (run fresh (lead ++ es))) (append-nil (ticks k))
-    (promise fresh standard lead (ticks k) [] 1 (rw (append-nil (ticks k)) met))
+    (promise fresh (standard .is-fresh) lead (ticks k) [] 1 (rw (append-nil (ticks k)) met))
 
 -- ---- the statements
 

@@ -1,4 +1,5 @@
--- Document 02, #101: the page of document 01's example sheet, lines of every state and width, and calls that are refused.
+-- Document 02, #101: the page of document 01's example sheet, lines of every state and width, and calls that are refused. A sheet runs on the standard fresh
+-- unit.
 use Prim.Native.Nat.{ℕ, zero, suc}
 use mathlib.Core.List.{List, [], _∷_, _++_}
 use lib.ListN.{length, replicate, take, drop}

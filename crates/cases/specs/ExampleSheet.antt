@@ -1,5 +1,5 @@
 -- Document 01, "Run sheet and rack program": the example sheet, what its run hands back and what the program prints; and sheets that are refused,
--- with each number from 9 to 13.
+-- with each number from 9 to 13. A sheet runs on the standard fresh unit.
 use Prim.Native.Nat.{ℕ}
 use mathlib.Core.List.{List, [], _∷_, _++_}
 use lib.ListN.{take, replicate}

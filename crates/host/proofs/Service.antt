@@ -71,7 +71,7 @@ by-load table start before u e l =
     }
 
 begun : (start : State) (u : Stored) → Begins start u → Begun start u
-begun start u (inl (e, made)) = record { is-fresh = rw e standard; state-is = made .rules ∙ sym e; places = made .places }
+begun start u (inl (e, made)) = record { is-fresh = rw e (standard .is-fresh); state-is = made .rules ∙ sym e; places = made .places }
 begun start u (inr (table, (e, (before, l)))) = by-load table start before u e l
 
 -- what the host holds

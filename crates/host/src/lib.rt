@@ -1,6 +1,6 @@
 // The unit's state lent by the host (document 01: "The host owns the unit's state and lends it for each event; the event updates it and touches nothing
 // else"). Six functions are exported to C and Rust; each is thin over a function by value. What stores through the reference that it is lent does so only
-// if the event or the call is accepted.
+// if the event, the call or the table is accepted.
 ghost use mathlib.Core.Path.{_≡_};
 ghost use Rattle.rules.specs.Events.{setBucket, assignBucket};
 ghost use Rattle.rules.specs.Loading.{loading};

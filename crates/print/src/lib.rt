@@ -1,4 +1,4 @@
-// A sheet run and printed in one call (document 02, #101): its check, its records and their pages; and what is exported.
+// A sheet run on the standard fresh unit and printed in one call (document 02, #101): its check, its records and their pages; and what is exported.
 // Each contract is an equation with a rule of crates/rules/specs/Pages.antt; the rule is named above the function.
 ghost use mathlib.Core.Path.{_≡_};
 ghost use Rattle.rules.specs.Pages as rules;

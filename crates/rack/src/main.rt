@@ -6,8 +6,8 @@ use libc::STDERR_FILENO;
 use libc::STDIN_FILENO;
 use libc::STDOUT_FILENO;
 
-// The rule `printed`: the text of a sheet, at the front of the lent array, and its length. It is that of the part that the run hands back; there is room for
-// the most records that a sheet gives, 8,383.
+// The rule `printed`: the text of a sheet's run on the standard fresh unit, at the front of the lent array, and its length. It is that of the part that the
+// run hands back; there is room for the most records that a sheet gives, 8,383.
 fn print_sheet(sheet: &[u8], out: &mut [u8; 151000]) -> usize
     ensures { λ r. ⌜ Front (printed (now (sheet .entry))) (now (out .entry)) r (now (out .exit)) ⌝ }
 {

@@ -76,7 +76,7 @@ standard-stored a =
 
 pub standard : Standard
 unfolding fresh freshFrom loads fits most limitsApart settingsFrom freshTable registers place
-standard = record { table = freshTable; loaded = refl; made = λ i. freshWith (λ a. standard-stored a i) }
+standard = record { is-fresh = record { table = freshTable; loaded = refl; made = λ i. freshWith (λ a. standard-stored a i) }; by-column = refl }
 
 -- ---- any fresh unit
 

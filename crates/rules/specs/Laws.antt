@@ -18,7 +18,7 @@ use Rattle.rules.specs.Buckets.{Buckets, freshBuckets, setAt, setOf, buc
 use Rattle.rules.specs.History.{History, blockSamples, keptBlocks, readyBlocks, sumLimit, saturated, sumOf, value}
 use Rattle.rules.specs.State.{State, selected, mode, Ready}
 use Rattle.rules.specs.Tick.{hourTicks, holdingLimit}
-use Rattle.rules.specs.Registers.{inMap, register, readOnly, largest, stored, settingsFrom, fresh}
+use Rattle.rules.specs.Registers.{inMap, register, readOnly, largest, stored, settingsFrom, freshTable, fresh}
 use Rattle.rules.specs.Reading.{hours, twos, read}
 use Rattle.rules.specs.Refusals.{accepted}
 use Rattle.rules.specs.Run.{next, run}
@@ -221,9 +221,10 @@ Bytes = (start : State) → Fresh start → (es : List Event) (a : ℕ) → read
 
 -- ---- tables of fresh values
 
--- the standard fresh unit is one that a table makes
-abbrev pub Standard : Type 0
-Standard = Fresh fresh
+-- the standard fresh unit is one that a table which loads makes: the column Fresh
+pub record Standard : Type 0 where
+  pub is-fresh : Fresh fresh
+  pub by-column : is-fresh .table ≡ freshTable
 
 -- what a table has for a register that may be written reads back, in 0x1c to 0x23 without bits 7-4
 abbrev pub ReadsBack : Type 0

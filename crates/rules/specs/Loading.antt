@@ -36,7 +36,7 @@ freshFrom table = freshWith (λ a. stored a (settingsFrom table a))
 unfoldable pub loading : List ℕ → State → Outcome
 loading table s = record { refusal = loadRefusal table; state = if loads table then freshFrom table else s }
 
--- A FRESH UNIT is one that a table makes. "Histories from a fresh unit then include those from every table that loads."
+-- A FRESH UNIT is one that a table which loads makes. "Histories from a fresh unit then include those from every table that loads."
 -- The standard fresh unit is one of them (`Standard` in Laws).
 pub record Fresh (s : State) : Type 0 where
   pub table : List ℕ

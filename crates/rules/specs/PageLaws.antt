@@ -116,8 +116,8 @@ pub record Answered (s records pages : List ℕ) : Type 0 where
 abbrev pub PrintNumber : Type 0
 PrintNumber = (s records pages : List ℕ) → Answered s records pages
 
--- the call ran: the records are those of a run, the pages stand over the front of their output; both outputs keep their lengths, and line i of the pages reads
--- as record i of the records
+-- the call ran: the records are those of a run, on the standard fresh unit as every sheet's is (`front` in Sheet), and the pages stand over the front of their
+-- output; both outputs keep their lengths, and line i of the pages reads as record i of the records
 pub record Printed (s records pages : List ℕ) : Type 0 where
   pub recordsAre : print s records pages .records ≡ outputAfter s records
   pub pagesAre : print s records pages .pages ≡ over (pagesOf (recordCount s) (front s (length records))) pages

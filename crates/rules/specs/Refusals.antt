@@ -11,10 +11,11 @@ use Rattle.rules.specs.History.{held}
 use Rattle.rules.specs.State.{State, selected, Ready}
 use Rattle.rules.specs.Registers.{inMap, readOnly, largest, written}
 
--- 4: "reject − qualification would be under 6"; it concerns the writes of the two limits
+-- "reject − qualification" is 6 or more: for 4 here, and for 15 in Loading
 unfoldable pub limitsApart : Settings → Bool
 limitsApart set = leb (qualification set + 6) (reject set)
 
+-- 4: "reject − qualification would be under 6"; it concerns the writes of the two limits
 unfoldable pub limitsRefused : Settings → ℕ → ℕ → Bool
 limitsRefused set a v = (eqb a 0x44 || eqb a 0x45) && not (limitsApart (written a v set))
 
