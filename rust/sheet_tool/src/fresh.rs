@@ -86,9 +86,14 @@ fn places_at_fault(values: &[u8]) -> Vec<usize> {
 /// A table that loads, with limits that are as far apart as can be, so that
 /// each can be tried alone.
 fn others() -> Vec<u8> {
-    let mut table = vec![0; registers::all().count()];
-    table[place("reject")] = 127;
-    table
+    let with_reject = |reject| {
+        let mut table = vec![0; registers::all().count()];
+        table[place("reject")] = reject;
+        table
+    };
+    let mut tables = (0..=255).rev().map(with_reject);
+    let found = tables.find(|table| Unit::fresh().load(table) == 0);
+    found.expect("a table that loads")
 }
 
 /// The place of a register in a table.

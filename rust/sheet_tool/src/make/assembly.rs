@@ -134,8 +134,13 @@ impl Assembly {
         if !self.open.is_empty() {
             return Err("a setting in a repeat; only events can stand there".to_string());
         }
-        if self.aim == Aim::Sheet && self.settings.len() + count > MOST_SETTINGS {
-            return Err(format!("more than {} settings", MOST_SETTINGS));
+        match self.aim {
+            Aim::Sheet if self.settings.len() + count > MOST_SETTINGS => {
+                return Err(format!("more than {} settings", MOST_SETTINGS));
+            }
+            Aim::Sheet => {}
+            // Each has a record, as a step has.
+            Aim::Host => self.need_room(count)?,
         }
         let settings = std::iter::repeat(setting).take(count);
         self.settings.extend(settings);

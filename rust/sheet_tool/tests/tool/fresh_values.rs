@@ -7,14 +7,10 @@ use crate::random;
 use crate::same_records::check_host;
 use crate::xml::texts;
 use controller::Unit;
+use model::STANDARD_TABLE as STANDARD;
 use shared::random::Random;
 use sheet_tool::make::script;
 use sheet_tool::show::show;
-
-/// Document 01's fresh values.
-const STANDARD: [u8; 27] = [
-    0, 0, 0, 0, 0, 0, 0, 0, 0, 0, 0, 0, 0, 0, 255, 0, 31, 25, 0, 0, 0, 0, 0, 0, 0, 0, 0,
-];
 
 /// The places of some registers in a table.
 const HOURS: usize = 11;
@@ -133,8 +129,9 @@ fn tables_that_do_not_load() {
 }
 
 /// Each value at fault is named, and no other. With any bytes, the table loads
-/// once those named are as in the standard one, both limits if one is named; and
-/// each of the others named is turned down alone.
+/// once those named are as in the standard one, both limits if one is named.
+/// Each of the others named is turned down alone, and the limits, if one is
+/// named, together.
 #[test]
 fn all_values_at_fault_are_named() {
     let mut random = Random::new(10);
@@ -156,15 +153,16 @@ fn all_values_at_fault_are_named() {
             let place = sheet_tool::registers::all().position(|register| register.1 == name);
             let place = place.expect("a register's name");
             assert_eq!(values[place].to_string(), value);
-            if limits.contains(&place) {
-                limits
-                    .iter()
-                    .for_each(|&limit| repaired[limit] = STANDARD[limit]);
-            } else {
-                let alone = table(&[(place, values[place])]);
-                assert_eq!(Unit::fresh().load(&alone), 15, "{}", named);
+            let at_fault = match limits.contains(&place) {
+                true => &limits[..],
+                false => &[place],
+            };
+            let mut alone = STANDARD;
+            for &place in at_fault {
+                alone[place] = values[place];
                 repaired[place] = STANDARD[place];
             }
+            assert_eq!(Unit::fresh().load(&alone), 15, "{}", named);
         }
         assert_eq!(
             host(&statement(&repaired)).table.as_deref(),
@@ -210,11 +208,17 @@ first   last    from s      to s  state         selected  qualified  alarm  Read
     assert_eq!(alone.lines().count(), 1);
 }
 
-/// A sheet's limits are not for a text with a table.
+/// A sheet's limits are not for a text with a table; that of a text with calls
+/// is, settings included.
 #[test]
 fn limits() {
     let long = statement(&STANDARD) + "300 x setting control 1\n60000 x tick 0 0 0";
     assert_eq!(host(&long).steps.len(), 60_300);
+    let settings = |times| statement(&STANDARD) + &"50000 x setting control 1\n".repeat(times);
+    assert_eq!(host(&settings(20)).steps.len(), 1_000_000);
+    let reason = "there would be more than 1,000,000 records";
+    check_fault(&settings(21), 22, reason);
+    check_fault(&(settings(20) + "hit"), 22, reason);
 }
 
 /// With document 01's own values the records are those of the sheet without.

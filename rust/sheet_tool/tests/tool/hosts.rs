@@ -47,8 +47,8 @@ pub fn check_no_sheet(text: &str, line: usize, word: &str) {
     check_failed(&name, &commands, text, line, &reason);
     assert_eq!(make(text.as_bytes()), Err(Fault { line, reason }));
     let file = present(&format!("{}-run.txt", name), text.as_bytes());
-    let output = absent(&format!("{}-results", name));
     for command in ["run", "picture"] {
+        let output = absent(&format!("{}-{}", name, command));
         assert_eq!(sheet(&[command, &file, "-o", &output]).text(), "");
         assert!(!read(&output).is_empty());
     }
