@@ -288,7 +288,8 @@ static void fresh_values(void)
 {
     struct unit u = tracking(1);
     ticks(&u, LOCK_TICKS - 1 + (long)READY_BLOCKS * BLOCK_TICKS, 0, 1, 7);
-    unit_set_bucket(&u, 0, 20, 10, 5, 3);
+    expect("#105 a unit with a past: Ready", ready(&u), 1);
+    expect("#105 and with another bucket set", unit_set_bucket(&u, 0, 20, 10, 5, 3), 0);
     expect("#105 a table loads", unit_load(&u, buyers_own, TABLE_BYTES), 0);
     expect("#105 Free Run, selected 0", state_byte(&u), 0x00);
     expect("#105 0x1c without its upper bits", unit_read(&u, 0x1c), 9);

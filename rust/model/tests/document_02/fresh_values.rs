@@ -2,7 +2,7 @@
 //! load.
 
 use crate::bench::*;
-use model::{table_addresses, BucketSet, Call, State, Unit, STANDARD_TABLE};
+use model::{table_addresses, BucketSet, Call, State, Unit, LOCK_ALARM_TICKS, STANDARD_TABLE};
 
 /// The standard table with other values at these addresses.
 fn table(values: &[(u8, u8)]) -> Vec<u8> {
@@ -20,9 +20,9 @@ fn loaded(values: &[(u8, u8)]) -> Unit {
     unit
 }
 
-/// Tables that must not load, on a fresh unit and on one with a past.
+/// Tables that must not load, on a fresh unit and on those with a past.
 fn refuse_tables(tables: impl IntoIterator<Item = Vec<u8>>) {
-    let units = [Unit::fresh(), busy()];
+    let units = [Unit::fresh(), busy(), holding()];
     for table in tables {
         for unit in &units {
             let mut other = unit.clone();
@@ -32,7 +32,8 @@ fn refuse_tables(tables: impl IntoIterator<Item = Vec<u8>>) {
     }
 }
 
-/// A unit of which every part is other than fresh.
+/// A unit with a past: Locked and Ready, a better reference waited for, samples
+/// in the open block, a backup, other registers and bucket sets.
 fn busy() -> Unit {
     let mut unit = automatic(&[1, 2]);
     lock_ticks(&mut unit, 15 + 44 * 128, -7);
@@ -48,8 +49,23 @@ fn busy() -> Unit {
         assert_eq!(unit.call(&call), 0);
     }
     lock_ticks(&mut unit, 100, 5);
-    masked_ticks(&mut unit, 1, 0x04);
+    tick(&mut unit, 0x04, true, 5);
     assert!(unit.wait.ticks > 0 && unit.ready() && unit.backup_held());
+    assert!(unit.locked() && unit.history.open.samples > 0);
+    unit
+}
+
+/// The same later on: in Holdover for some ticks, after a switch and a lock
+/// alarm, with a history that builds.
+fn holding() -> Unit {
+    let mut unit = busy();
+    write(&mut unit, 0x43, 0);
+    lock_ticks(&mut unit, 1, 0);
+    clean_ticks(&mut unit, u32::from(LOCK_ALARM_TICKS));
+    write(&mut unit, 0x42, 0);
+    clean_ticks(&mut unit, 3);
+    assert!(unit.holdover_ticks > 0 && unit.history.builds());
+    assert!(unit.inputs.iter().any(|input| input.remainder > 0));
     unit
 }
 
@@ -116,13 +132,14 @@ fn a_loaded_unit_is_fresh() {
         &[(0x41, 9)],
         &[(0x41, 3), (0x25, 1), (0x42, 0), (0x43, 255)],
     ] {
-        let mut unit = busy();
-        assert_eq!(unit.load(&table(values)), 0);
-        assert_eq!(unit, loaded(values));
-        assert_eq!((unit.pll.state, unit.selected), (State::FreeRun, 0));
-        let settings = unit.settings;
-        let other = Unit::fresh();
-        assert_eq!(Unit { settings, ..other }, unit);
+        for mut unit in [busy(), holding()] {
+            assert_eq!(unit.load(&table(values)), 0);
+            assert_eq!(unit, loaded(values));
+            assert_eq!((unit.pll.state, unit.selected), (State::FreeRun, 0));
+            let settings = unit.settings;
+            let other = Unit::fresh();
+            assert_eq!(Unit { settings, ..other }, unit);
+        }
     }
 }
 
