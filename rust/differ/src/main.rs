@@ -1,5 +1,5 @@
 //! The program: compares the controller with the model over random lists of
-//! events and tells what was reached.
+//! events, calls and tables, and tells what was reached.
 
 use differ::coverage::Coverage;
 use differ::device::Device;
@@ -16,7 +16,7 @@ usage: differ [--self] [--seed N] [--lists M]    M mixed lists and 3 long ones
        differ [--self] --list SEED [--long] [--shrink]    one list again
   --self    compares the model with itself
   --long    the list is one of those with a long Holdover
-  --shrink  looks for a short list of events with a difference";
+  --shrink  looks for a short list with a difference";
 
 struct Choices {
     with_itself: bool,

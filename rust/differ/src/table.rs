@@ -9,7 +9,7 @@ pub const FORBIDDEN: [u8; 11] = [
     0x26, 0x27, 0x46, 0x47, 0x48, 0x49, 0x4a, 0x4b, 0x4c, 0x4d, 0x4e,
 ];
 
-/// The addresses whose values end below 255, each with the largest.
+/// The other addresses whose values end below 255, each with the largest.
 pub const LARGEST: [(u8, u8); 6] = [
     (0x24, 31),
     (0x25, 1),
@@ -71,7 +71,8 @@ impl Table {
     }
 }
 
-fn place(address: u8) -> usize {
+/// The place of an address of the map in a table.
+pub fn place(address: u8) -> usize {
     let place = table_addresses().position(|other| other == address);
     place.expect("an address of the map")
 }

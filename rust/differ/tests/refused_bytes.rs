@@ -129,7 +129,7 @@ fn refused_tables() -> [Table; 7] {
     ]
 }
 
-/// All that a fresh unit refuses, with the number.
+/// Those, and tables, that a fresh unit refuses, with the number.
 fn refused() -> Vec<(u8, Sent)> {
     let tables = refused_tables().map(|table| (15, Sent::Load(table)));
     REFUSED.into_iter().chain(tables).collect()
@@ -213,8 +213,8 @@ fn each_refusal_leaves_the_bytes_in_random_lists() {
         let mut counts = coverage.counts().into_iter();
         assert!(
             counts.any(|(item, count)| names.iter().any(|name| name == item) && count > 0),
-            "{}",
-            names[0]
+            "{:?}",
+            names
         );
     }
 }

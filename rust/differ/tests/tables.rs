@@ -31,10 +31,6 @@ const EVENTS: u64 = 10_000;
 
 const STANDARD: Table = Table::STANDARD;
 
-/// Where the registers lie in a unit's bytes.
-#[cfg(feature = "controller")]
-const REGISTERS: usize = 1706;
-
 /// A unit with a past: Ready, a reference selected and another waited for,
 /// other bucket sets, and registers that are not fresh.
 fn busy<D: Device>(make: &D) -> Bench<D> {
@@ -178,11 +174,15 @@ fn every_field_of_a_loaded_unit_is_fresh() {
         held.bytes.iter_mut().for_each(|byte| *byte = random.byte());
         let table = draw::table(&mut random);
         assert_eq!(held.send(table.into()).0, 0, "{}", table);
-        let mut regs = table.bytes();
+        let fresh = controller::Unit::fresh();
+        let mut regs = fresh.regs;
+        regs.copy_from_slice(&table.bytes());
         regs[..8].iter_mut().for_each(|byte| *byte &= 0x0f);
-        let mut fresh = held::Held::fresh_unit();
-        fresh.bytes[REGISTERS..REGISTERS + regs.len()].copy_from_slice(&regs);
-        assert!(held == fresh, "{}", table);
+        assert!(
+            *held.unit() == controller::Unit { regs, ..fresh },
+            "{}",
+            table
+        );
     }
 }
 
@@ -237,9 +237,11 @@ fn check_lists<D: Device>(make: &D) {
         let long = false;
         let mut list = List::fresh(make, Name { seed, long }, &mut coverage);
         let table = draw::table(&mut list.random);
+        assert!(table.loads(), "{}", table);
         let outcome = list.load(table);
         let outcome = outcome.and_then(|()| mix_events(&mut list, EVENTS));
-        assert_eq!(outcome.map_err(|found| found.to_string()), Ok(()));
+        let outcome = outcome.map_err(|found| found.to_string());
+        assert_eq!(outcome, Ok(()), "{} of {}", seed, table);
     }
 }
 

@@ -48,7 +48,7 @@ impl Held {
         held
     }
 
-    fn unit(&self) -> &Unit {
+    pub fn unit(&self) -> &Unit {
         // SAFETY: the bytes are those of a unit, and aligned to 8.
         unsafe { &*self.bytes.as_ptr().cast::<Unit>() }
     }

@@ -8,13 +8,8 @@
 //! them, in the test of the controller's fields.
 
 use crate::faults::*;
-use model::{table_addresses, BucketSet, Input, State, Unit, BYTES_PER_TABLE, SOAK_TICKS};
-
-/// The place of an address in a table.
-fn place(address: u8) -> usize {
-    let place = table_addresses().position(|other| other == address);
-    place.expect("an address of the map")
-}
+use differ::table::place;
+use model::{BucketSet, Input, State, Unit, BYTES_PER_TABLE, SOAK_TICKS};
 
 /// Takes another table in place of this, if it has 27 bytes.
 fn load_other(unit: &mut Unit, table: &[u8], alter: impl Fn(&mut [u8])) -> u8 {
@@ -25,7 +20,8 @@ fn load_other(unit: &mut Unit, table: &[u8], alter: impl Fn(&mut [u8])) -> u8 {
     unit.load(&other)
 }
 
-/// Takes a table of one length as one of 27 bytes, with 0 for those that miss.
+/// Takes a table of one length as one of 27 bytes, with 0 for the bytes
+/// that are missing.
 fn of_length<const LENGTH: usize>(unit: &mut Unit, table: &[u8]) -> u8 {
     let mut other = table.to_vec();
     if other.len() == LENGTH {
