@@ -2,7 +2,9 @@
 use Prim.Native.Nat.{_-_}
 use native.Mathlib.Omega.{arith}
 use borrow.Author.Needs.{needs}
-use Rattle.sheet.proofs.Signed.{low, high, high-fits}
+use mir.Syntax.{w32}
+use Rattle.arith.proofs.Signed.{flip-fits}
+use Rattle.sheet.proofs.Signed.{low, high}
 use Rattle.sheet.proofs.signed_word.Statement.{statement}
 use Rattle.sheet.proofs.signed_word.Tie as tie
 
@@ -10,7 +12,7 @@ returns : tie.Need-returns
 returns c = low (c .before .args .n) (c .if1 .taken)
 
 sub-result-2 : tie.Need-sub-result-2
-sub-result-2 c = high-fits (4_294_967_295 - c .before .args .n) (omega arith)
+sub-result-2 c = flip-fits w32 (4_294_967_295 - c .before .args .n) (omega arith)
 
 returns-2 : tie.Need-returns-2
 returns-2 c = high (c .before .args .n) (omega arith) (omega arith)

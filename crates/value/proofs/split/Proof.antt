@@ -1,14 +1,11 @@
 -- Below 0 the machine's −1 − z is the magnitude; else z is.
-use mathlib.Core.Path.{sym, subst}
 use native.Mathlib.Omega.{arith}
-use mir.Syntax.{w64}
-use mir.Val.{SFits}
-use Rattle.value.proofs.Signed.{below, above, flips, flips-back, stays}
+use Rattle.arith.proofs.Signed.{below, above, flips-fits, flips-back, stays}
 use Rattle.value.proofs.split.Statement.{statement}
 use Rattle.value.proofs.split.Tie as tie
 
 sub-t3 : tie.Need-sub-t3
-sub-t3 c = let s = c .before in subst (SFits w64) (sym (flips (s .args .z) (s .fits .z) (c .if1 .taken))) (record { sfits = s .fits .z .sfits })
+sub-t3 c = let s = c .before in flips-fits (s .args .z) (s .fits .z) (c .if1 .taken)
 
 cast-t4 : tie.Need-cast-t4
 cast-t4 c = let s = c .before in rw (flips-back (s .args .z) (s .fits .z) (c .if1 .taken)) (tt, record { fits = omega (arith, s .fits .z .sfits) })
