@@ -31,9 +31,13 @@ records =
 abbrev pub lent : ℕ → List ℕ
 lent n = replicate n 0xff
 
--- a sheet with no setting and one event: kind, a, b, the byte after them, and the low byte of the word
+-- a sheet with no setting and one event: kind, a, b, the byte after them, and the word's bytes
+abbrev withWord : ℕ → ℕ → ℕ → ℕ → List ℕ → List ℕ
+withWord kind a b c word = 0x00 ∷ 0x00 ∷ 0x01 ∷ 0x00 ∷ kind ∷ a ∷ b ∷ c ∷ word
+
+-- with a word of this low byte
 abbrev oneEvent : ℕ → ℕ → ℕ → ℕ → ℕ → List ℕ
-oneEvent kind a b c word = 0x00 ∷ 0x00 ∷ 0x01 ∷ 0x00 ∷ kind ∷ a ∷ b ∷ c ∷ word ∷ 0x00 ∷ 0x00 ∷ 0x00 ∷ []
+oneEvent kind a b c low = withWord kind a b c (low ∷ 0x00 ∷ 0x00 ∷ 0x00 ∷ [])
 
 unfoldable pub table : List Row
 table =
@@ -53,8 +57,9 @@ table =
     ∷ printed (take 21 sheet) is ascii "refused 10\n"
     -- 11 "bytes after the events"
     ∷ check (sheet ++ 0x00 ∷ []) 12 is 11
-    -- 12 "kind over 3, lock over 1, or unused field not 0"
-    ∷ check (oneEvent 4 0 0 0 0) 4 is 12
+    -- 12 "kind over 3, lock over 1, or unused field not 0"; document 02, #106: it "covers kinds over 4 from now on"
+    ∷ check (oneEvent 5 0 0 0 0) 4 is 12
+    ∷ check (oneEvent 4 0 0 0 0) 4 is 0
     ∷ check (oneEvent 0 0 1 0 0) 4 is 0
     ∷ check (oneEvent 0 0 2 0 0) 4 is 12
     ∷ check (oneEvent 0 0 0 1 0) 4 is 12
@@ -62,6 +67,13 @@ table =
     ∷ check (oneEvent 2 1 0 0 0) 4 is 12
     ∷ check (oneEvent 2 0 1 0 0) 4 is 12
     ∷ check (oneEvent 3 0x40 1 0 1) 4 is 12
+    ∷ check (oneEvent 4 1 1 0 0) 4 is 12
+    ∷ check (oneEvent 4 1 0 1 0) 4 is 12
+    -- #106: "a word outside −32,768 to 32,767 gives 12": 32,767, 32,768, −32,768 and −32,769
+    ∷ check (withWord 4 1 0 0 (0xff ∷ 0x7f ∷ 0x00 ∷ 0x00 ∷ [])) 4 is 0
+    ∷ check (withWord 4 1 0 0 (0x00 ∷ 0x80 ∷ 0x00 ∷ 0x00 ∷ [])) 4 is 12
+    ∷ check (withWord 4 1 0 0 (0x00 ∷ 0x80 ∷ 0xff ∷ 0xff ∷ [])) 4 is 0
+    ∷ check (withWord 4 1 0 0 (0xff ∷ 0x7f ∷ 0xff ∷ 0xff ∷ [])) 4 is 12
     -- 13 "output under 4 bytes a record"; a refused sheet hands back nothing, and leaves the output
     ∷ check sheet 11 is 13
     ∷ front sheet 11 is []

@@ -4,7 +4,7 @@ use mathlib.Core.Bool.{Bool, true, false}
 use mathlib.Core.List.{List, [], _∷_, _++_}
 use lib.IntN.{ℤ, pos, negℤ}
 use lib.ListN.{replicate}
-use Rattle.rules.specs.Events.{Event, tick, measurement, write}
+use Rattle.rules.specs.Events.{Event, tick, oldKind, write}
 use Rattle.rules.specs.Settings.{delayTicks}
 use Rattle.rules.specs.Selection.{input}
 use Rattle.rules.specs.History.{replaced, value, freshHistory}
@@ -52,9 +52,9 @@ clean n = replicate n (tick 0 false (pos 0))
 abbrev locked : ℕ → List Event
 locked n = replicate n (tick 0 true (pos 0))
 
--- a measurement of input i
+-- a measurement of input i; document 02, #106: "Cases C and D are of the old kind"
 abbrev measured : ℕ → ℤ → List Event
-measured i offset = measurement i offset ∷ []
+measured i offset = oldKind i offset ∷ []
 
 abbrev minus : ℕ → ℤ
 minus n = negℤ (pos n)

@@ -1,8 +1,8 @@
--- Every row of the two tables is computed.
+-- Every row of the three tables is computed.
 use mathlib.Core.Path.{refl}
-use Rattle.rules.specs.Avoided.{table, loadings, Avoided}
+use Rattle.rules.specs.Avoided.{table, loadings, readings, Avoided}
 use Rattle.rules.proofs.Computing.{computing}
 
 pub avoided : Avoided
-unfolding computing table loadings
-avoided = (refl, refl)
+unfolding computing table loadings readings
+avoided = (refl, (refl, refl))

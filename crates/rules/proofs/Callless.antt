@@ -1,9 +1,9 @@
 -- The calls of the host's (#104): a run sheet has none, and a list without one leaves the sets as they start.
 use Prim.Native.Nat.{ℕ, zero, suc, _+_}
 use mathlib.Core.Path.{_≡_, refl, _∙_}
-use mathlib.Core.Bool.{false, _&&_, true≢false}
+use mathlib.Core.Bool.{false, true≢false}
 use mathlib.Core.List.{List, [], _∷_, _++_}
-use lib.Dec.{ltb, eqb}
+use lib.Dec.{eqb}
 use lib.IntN.{ℤ}
 use lib.ListN.{getD, drop}
 use Rattle.rules.specs.Events.{Event, tick, measurement, hit, write, setBucket, assignBucket, isCall}
@@ -13,9 +13,10 @@ use Rattle.rules.specs.Buckets.{freshBuckets}
 use Rattle.rules.specs.Registers.{freshWith}
 use Rattle.rules.specs.Refusals.{accepted}
 use Rattle.rules.specs.Run.{afterMeasurement, afterHit, afterWrite, effect, next, run}
-use Rattle.rules.specs.Sheet.{word32, signedWord, Decoded, event, bad, isZero, tickOf, measurementOf, hitOf, writeOf, fields, decode, settingsCount, eventsAt, eventsCount, settingsOf, before, eventsOf, sheetEvents}
+use Rattle.rules.specs.Sheet.{word32, signedWord, Decoded, event, bad, fields, decode, settingsCount, eventsAt, eventsCount, settingsOf, before, eventsOf, sheetEvents}
 use Rattle.rules.specs.Laws.{Callless, Untouched, NoCalls}
 use Rattle.rules.proofs.Tests.{if-case}
+use Rattle.rules.proofs.Fields.{fields-case}
 use Rattle.rules.proofs.Loading.{each-fresh}
 
 -- ---- a run sheet
@@ -26,12 +27,7 @@ Plain (event e) = isCall e ≡ false
 Plain bad = Unit {0}
 
 plain-fields : (kind a b : ℕ) (w : ℤ) → Plain (fields kind a b w)
-unfolding fields tickOf measurementOf hitOf writeOf
-plain-fields kind a b w =
-    if-case Plain (eqb kind 0) (λ e. if-case Plain (ltb 1 b) (λ t. tt) (λ t. refl))
-    (λ e. if-case Plain (eqb kind 1) (λ t. if-case Plain (isZero w) (λ u. refl) (λ u. tt))
-    (λ t. if-case Plain (eqb kind 2) (λ u. if-case Plain (eqb a 0 && eqb b 0 && isZero w) (λ v. refl) (λ v. tt))
-    (λ u. if-case Plain (eqb kind 3) (λ v. if-case Plain (isZero w) (λ z. refl) (λ z. tt)) (λ v. tt))))
+plain-fields kind a b w = fields-case Plain kind a b w tt (λ lock. refl) (λ e. refl) refl refl (λ e h. refl)
 
 plain-decoded : (l : List ℕ) → Plain (decode l)
 unfolding decode

@@ -21,6 +21,7 @@ pub mod Bytes
 pub mod Digits
 pub mod Parts
 pub mod Pages
+pub mod Fields
 pub mod Sheets
 pub mod Callless
 pub mod RecordBytes
@@ -35,6 +36,7 @@ pub mod Alike
 pub mod Commands
 pub mod Behind
 pub mod Comparison
+pub mod FinerReadings
 pub mod Standing
 pub mod Records
 pub mod PageLaws

@@ -10,7 +10,7 @@ use lib.IntN.{ℤ, natAbs, _+ℤ_}
 use lib.ListN.{length}
 use borrow.Author.Tests.{eqb-true, eqb-false, leb-true, leb-false, ltb-true, ltb-false, eq-eqb, ne-eqb}
 use Rattle.rules.specs.Words.{if_then_else_, bitOf, isInput, isTracked, isCounted}
-use Rattle.rules.specs.Events.{Event, tick, measurement, hit, write, setBucket, assignBucket, isTick}
+use Rattle.rules.specs.Events.{Event, tick, measurement, hit, write, setBucket, assignBucket, halfPpm, isTick}
 use Rattle.rules.specs.Monitors.{Bucket, Input, monitored, measured, unsoaked, lockAlarmed, qualified}
 use Rattle.rules.specs.Pll.{locked, is, modeNumber, Loop, lockTicks, looped, alarmDue}
 use Rattle.rules.specs.Settings.{Settings, policy, automatic, reject, qualification, priority, usable, revertive, ahead, reversion, opMode}
@@ -288,19 +288,19 @@ going-tick b n r k mask lock x s ref g after reg locks =
 -- ---- the other events
 
 going-measurement : (b : Bucket) (n r k i : ℕ) (x : ℤ) (s : State) → isInput r ≡ true → isInput i ≡ true → Going b n r k s → Lawful (afterMeasurement i x s)
-    → (i ≡ r → natAbs x ≤ qualification (s .settings)) → Going b n r k (afterMeasurement i x s)
+    → (i ≡ r → natAbs x ≤ halfPpm * qualification (s .settings)) → Going b n r k (afterMeasurement i x s)
 unfolding afterMeasurement
 going-measurement b n r k i x s ref ri g after small =
     record { auto = g .auto; prefer = g .prefer; wait-is = g .wait-is; lawful = after; bucket-is = g .bucket-is; calm = by-test (eqb i r) same other-input; phase = g .phase }
   where
     f : Input → Input
-    f = measured (reject (s .settings)) (qualification (s .settings)) x
+    f = measured (halfPpm * reject (s .settings)) (halfPpm * qualification (s .settings)) x
 
     same : eqb i r ≡ true → Calm (bucketOf (s .buckets) r) k (input (altered f i (s .inputs)) r)
     same e =
         rw (eqb-true i r e, input-altered-same f r (s .inputs) (low 1 8 r ref) (omega (arith, g .lawful .inputs .eight, high 1 8 r ref)))
-        (calm-measured (bucketOf (s .buckets) r) (bucket-works (s .buckets) (g .lawful .buckets) r ref) k (reject (s .settings)) (qualification (s .settings)) x (input (s .inputs) r)
-        (omega (arith, g .lawful .settings .apart)) (small (eqb-true i r e)) (g .calm))
+        (calm-measured (bucketOf (s .buckets) r) (bucket-works (s .buckets) (g .lawful .buckets) r ref) k (halfPpm * reject (s .settings)) (halfPpm * qualification (s .settings)) x
+        (input (s .inputs) r) (omega (arith, g .lawful .settings .apart)) (small (eqb-true i r e)) (g .calm))
 
     other-input : eqb i r ≡ false → Calm (bucketOf (s .buckets) r) k (input (altered f i (s .inputs)) r)
     other-input e = rw (input-altered-other f i r (s .inputs) (low 1 8 i ri) (low 1 8 r ref) (eqb-false i r e)) (g .calm)

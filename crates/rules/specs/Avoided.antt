@@ -1,5 +1,5 @@
 -- The traps of document 01 and the cheap programs of "Every result is settled", avoided, and a few more wrong
--- rules, those of requests #102, #104 and #105 among them: for each a small case in which the rules give something else.
+-- rules, those of requests #102, #104, #105 and #106 among them: for each a small case in which the rules give something else.
 -- A run is from the standard fresh unit, or from a unit that is written down: one history is enough to tell a wrong rule.
 use Prim.Native.Nat.{ℕ}
 use mathlib.Core.Bool.{Bool, true, false}
@@ -7,7 +7,7 @@ use mathlib.Core.List.{List, [], _∷_, _++_}
 use lib.IntN.{pos, negsuc}
 use lib.ListN.{length, replicate, set, take}
 use Rattle.rules.specs.Words.{if_then_else_}
-use Rattle.rules.specs.Events.{tick, hit, write, setBucket, assignBucket}
+use Rattle.rules.specs.Events.{Event, tick, measurement, oldKind, hit, write, setBucket, assignBucket}
 use Rattle.rules.specs.Monitors.{Activity, Input, measured, fullSoak, freshInput}
 use Rattle.rules.specs.Pll.{holdover, preLocked}
 use Rattle.rules.specs.Settings.{Settings}
@@ -20,7 +20,7 @@ use Rattle.rules.specs.Reading.{stateByte, read}
 use Rattle.rules.specs.Refusals.{refusal}
 use Rattle.rules.specs.Run.{next, run}
 use Rattle.rules.specs.Loading.{loads, freshFrom, loading}
-use Rattle.rules.specs.Sheet.{check}
+use Rattle.rules.specs.Sheet.{event, bad, fields, decode, check}
 use Rattle.rules.specs.Printout.{ascii, decimal, hexadecimal}
 use Rattle.rules.specs.Table.{Row, _is_, Holds}
 
@@ -79,6 +79,13 @@ soakOver size = input (run (unit (setting 0 0 0) (clocks true true true)) (setBu
 -- the standard table with another value for one register
 abbrev tableWith : ℕ → ℕ → List ℕ
 tableWith a v = set freshTable (place a) v
+
+-- input 1's frequency alarm after an event, the limits being 31 and 25, where it was set, and where it was clear
+abbrev wasSet : Event → Bool
+wasSet e = input (next fresh e .inputs) 1 .frequency
+
+abbrev wasClear : Event → Bool
+wasClear e = input (next (unit (fresh .settings) (clocks true true true)) e .inputs) 1 .frequency
 
 -- ---- the table
 
@@ -199,5 +206,32 @@ loadings =
     ∷ loading (tableWith 0x40 1) (inHoldover 5) .state .holding is 0
     ∷ []
 
+-- ---- the table of finer readings, #106
+
+unfoldable pub readings : List Row
+readings =
+    -- 31 times, or 33 times, for the old kind: 32 sets, and 25 clears
+    wasClear (oldKind 1 (pos 32)) is true
+    ∷ wasSet (oldKind 1 (pos 25)) is false
+    -- limits that are compared unscaled, or a step off
+    ∷ wasClear (measurement 1 (pos 992)) is false
+    ∷ wasClear (measurement 1 (pos 993)) is true
+    ∷ wasClear (measurement 1 (negsuc 992)) is true
+    ∷ wasSet (measurement 1 (pos 800)) is false
+    ∷ wasSet (measurement 1 (negsuc 799)) is false
+    ∷ wasSet (measurement 1 (pos 801)) is true
+    -- −32,768 negated in 16 bits
+    ∷ wasClear (measurement 1 (negsuc 32_767)) is true
+    -- kind 4 turned down, with b not 0, with a word a step outside 16 bits, or with byte 3 not 0; kind 5 let through
+    ∷ fields 4 3 0 (pos 32_767) is event (measurement 3 (pos 32_767))
+    ∷ fields 4 3 0 (negsuc 32_767) is event (measurement 3 (negsuc 32_767))
+    ∷ fields 4 3 1 (pos 0) is bad
+    ∷ fields 4 3 0 (pos 32_768) is bad
+    ∷ fields 4 3 0 (negsuc 32_768) is bad
+    ∷ decode (4 ∷ 3 ∷ 0 ∷ 0 ∷ 31 ∷ replicate 3 0) is event (measurement 3 (pos 31))
+    ∷ decode (4 ∷ 3 ∷ 0 ∷ 1 ∷ 31 ∷ replicate 3 0) is bad
+    ∷ fields 5 3 0 (pos 0) is bad
+    ∷ []
+
 abbrev pub Avoided : Type 0
-Avoided = Holds table × Holds loadings
+Avoided = Holds table × (Holds loadings × Holds readings)

@@ -1,12 +1,12 @@
--- Document 01, "Events", and the calls of request #104 of document 02, which are events of a history too.
+-- Document 01, "Events", with the finer readings of request #106 of document 02, and the calls of #104, which are events of a history too.
 use Prim.Native.Nat.{ℕ}
 use mathlib.Core.Bool.{Bool, true, false}
-use lib.IntN.{ℤ}
+use lib.IntN.{ℤ, pos, _*ℤ_}
 
 pub data Event : Type 0 where
   -- "Tick (irregular mask, bit i−1 for input i; lock flag; frequency sample in parts per 10^12"
   tick : ℕ → Bool → ℤ → Event
-  -- "Measurement (input 1 to 8; signed byte in 0.5 ppm)"
+  -- "Measurement (input 1 to 8;" and, #106, the offset, "a 16-bit signed number" in steps of 1/64 ppm. The rules have a meaning for every whole number.
   measurement : ℕ → ℤ → Event
   -- "Hit"
   hit : Event
@@ -16,6 +16,14 @@ pub data Event : Type 0 where
   setBucket : ℕ → ℕ → ℕ → ℕ → ℕ → Event
   -- #104, ".. or assigning a set": the input, and the set's number
   assignBucket : ℕ → ℕ → Event
+
+-- #106: "The new counter resolves 1/64 ppm." 0.5 ppm, in which the limits and the offsets of the old kind are, is so many of its steps.
+abbrev pub halfPpm : ℕ
+halfPpm = 32
+
+-- A measurement of the old kind, "signed byte in 0.5 ppm". #106: it "means 32 times its byte"
+abbrev pub oldKind : ℕ → ℤ → Event
+oldKind i offset = measurement i (pos halfPpm *ℤ offset)
 
 -- "sample .. −125,000,000 to 125,000,000"
 abbrev pub sampleLimit : ℕ

@@ -1,7 +1,7 @@
 -- The documents as definitions, in reading order: Events to Printout are document 01's sections or parts of them, over the words of Words. Of document 02,
--- Buckets is #104, whose calls are among Events, Loading is #105, History has #102 in it, and Pages is #101. OldHistory has the history's rules before #102,
--- for the comparison alone. From Table on stand statements about the rules: the traps avoided, the laws, the promise of service, the comparison, the promise
--- in the records of a sheet, and the laws of the pages.
+-- Buckets is #104, whose calls are among Events, Loading is #105, History has #102 in it, Events, Run and Sheet have #106, and Pages is #101. OldHistory has
+-- the history's rules before #102, and OldReadings the measurement's before #106, each for its comparison alone. From Table on stand statements about the
+-- rules: the traps avoided, the laws, the promise of service, the two comparisons, the promise in the records of a sheet, and the laws of the pages.
 pub mod Words
 pub mod Events
 pub mod Monitors
@@ -21,11 +21,13 @@ pub mod Sheet
 pub mod Printout
 pub mod Pages
 pub mod OldHistory
+pub mod OldReadings
 pub mod Table
 pub mod Avoided
 pub mod Laws
 pub mod Preference
 pub mod Service
 pub mod Comparison
+pub mod FinerReadings
 pub mod Records
 pub mod PageLaws

@@ -108,7 +108,7 @@ frequencyAfter reject qualification magnitude alarm =
     else (if leb magnitude qualification then false
     else alarm)
 
--- The magnitude is that of the whole number: −128 has 128, which no signed byte holds.
+-- The magnitude is that of the whole number: −32,768 has 32,768, which no signed number of 16 bits is.
 unfoldable pub measured : ℕ → ℕ → ℤ → Input → Input
 measured reject qualification offset i =
     record {

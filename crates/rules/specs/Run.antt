@@ -1,10 +1,10 @@
 -- What each event leaves, and a list of events.
-use Prim.Native.Nat.{ℕ}
+use Prim.Native.Nat.{ℕ, _*_}
 use mathlib.Core.List.{List, [], _∷_}
 use lib.Dec.{eqb}
 use lib.IntN.{ℤ}
 use Rattle.rules.specs.Words.{if_then_else_}
-use Rattle.rules.specs.Events.{Event, tick, measurement, hit, write, setBucket, assignBucket}
+use Rattle.rules.specs.Events.{Event, tick, measurement, hit, write, setBucket, assignBucket, halfPpm}
 use Rattle.rules.specs.Monitors.{Bucket, measured, unsoaked}
 use Rattle.rules.specs.Settings.{reject, qualification}
 use Rattle.rules.specs.Selection.{Inputs, altered, settled, unselectedLoop}
@@ -15,11 +15,11 @@ use Rattle.rules.specs.Tick.{ticked}
 use Rattle.rules.specs.Registers.{written}
 use Rattle.rules.specs.Refusals.{refusal, accepted}
 
--- a measurement, on one input
-unfoldable pub afterMeasurement : ℕ → ℤ → State → State
-afterMeasurement i offset s =
+-- the state with other inputs
+abbrev pub withInputs : Inputs → State → State
+withInputs inputs s =
     record {
-      inputs = altered (measured (reject (s .settings)) (qualification (s .settings)) offset) i (s .inputs);
+      inputs = inputs;
       buckets = s .buckets;
       settings = s .settings;
       loop = s .loop;
@@ -27,6 +27,11 @@ afterMeasurement i offset s =
       history = s .history;
       holding = s .holding;
     }
+
+-- a measurement, on one input. #106: "the limits are compared as 32 times theirs"
+unfoldable pub afterMeasurement : ℕ → ℤ → State → State
+afterMeasurement i offset s =
+    withInputs (altered (measured (halfPpm * reject (s .settings)) (halfPpm * qualification (s .settings)) offset) i (s .inputs)) s
 
 -- "Hit: the selected reference's soak becomes 0, selected 0, wait and runs 0, the open block empties, state Holdover or Free Run by Ready."
 unfoldable pub afterHit : State → State

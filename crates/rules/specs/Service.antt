@@ -1,11 +1,11 @@
--- Document 01, "Demand 3", as requests #104 and #105 of document 02 have it: the promise of service, one claim about whole histories from a fresh unit.
+-- Document 01, "Demand 3", as requests #104, #105 and #106 of document 02 have it: the promise of service, one claim about whole histories from a fresh unit.
 use Prim.Native.Nat.{ℕ, _+_, _*_, _-_, _^_, _≤_, max}
 use mathlib.Core.Path.{_≡_}
 use mathlib.Core.Bool.{true, false, _&&_}
 use mathlib.Core.List.{List, [], _∷_, _++_}
 use lib.IntN.{natAbs}
 use Rattle.rules.specs.Words.{if_then_else_, bitOf}
-use Rattle.rules.specs.Events.{Event, tick, measurement, hit, write, setBucket, assignBucket, isTick}
+use Rattle.rules.specs.Events.{Event, tick, measurement, hit, write, setBucket, assignBucket, halfPpm, isTick}
 use Rattle.rules.specs.Monitors.{Bucket, fullSoak, alarmTicks}
 use Rattle.rules.specs.Pll.{lockTicks}
 use Rattle.rules.specs.Settings.{qualification, delay, reversion}
@@ -26,12 +26,12 @@ abbrev pub TurnedDown : State → Event → Type 0
 TurnedDown s e = accepted s e ≡ false
 
 -- What is asked of one event; s is the state in which it begins. No accepted tick is irregular for r ("its mask has r's bit set"), and while r is selected
--- ("selected is r when the event begins") it reports lock. No measurement of r is in magnitude above the qualification limit. No Hit comes while r is
--- selected. No write is accepted; #104: "setting or assigning counts as a write". "Anything may stand in the other mask bits, the other inputs' measurements
--- and the samples, and, while r is not selected, in the lock flags; Hits may come then."
+-- ("selected is r when the event begins") it reports lock. No measurement of r is in magnitude above the qualification limit, which #106 has in finer steps
+-- as 32 times its value. No Hit comes while r is selected. No write is accepted; #104: "setting or assigning counts as a write". "Anything may stand in the
+-- other mask bits, the other inputs' measurements and the samples, and, while r is not selected, in the lock flags; Hits may come then."
 abbrev pub Fair : ℕ → State → Event → Type 0
 Fair r s (tick mask lock x) = accepted s (tick mask lock x) ≡ true → (bitOf mask r ≡ false) × (selected s ≡ r → lock ≡ true)
-Fair r s (measurement i offset) = i ≡ r → natAbs offset ≤ qualification (s .settings)
+Fair r s (measurement i offset) = i ≡ r → natAbs offset ≤ halfPpm * qualification (s .settings)
 Fair r s hit = selected s ≡ r → ⊥
 Fair r s (write a v) = TurnedDown s (write a v)
 Fair r s (setBucket n size setLevel clearLevel d) = TurnedDown s (setBucket n size setLevel clearLevel d)

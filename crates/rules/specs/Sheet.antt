@@ -1,12 +1,13 @@
--- Document 01, "Run sheet and rack program": a run sheet, its check, and the records of its run. Sheets and outputs are lists of bytes.
+-- Document 01, "Run sheet and rack program", with the kind of request #106 of document 02: a run sheet, its check, and the records of its run. Sheets and
+-- outputs are lists of bytes.
 use Prim.Native.Nat.{ℕ, zero, suc, _+_, _*_, _-_}
 use mathlib.Core.Bool.{Bool, true, false, not, _&&_, _||_}
 use mathlib.Core.List.{List, [], _∷_, _++_}
-use lib.Dec.{ltb, eqb}
+use lib.Dec.{leb, ltb, eqb}
 use lib.IntN.{ℤ, pos, negsuc, natAbs}
 use lib.ListN.{length, getD, drop}
 use Rattle.rules.specs.Words.{if_then_else_}
-use Rattle.rules.specs.Events.{Event, tick, measurement, hit, write}
+use Rattle.rules.specs.Events.{Event, tick, measurement, oldKind, hit, write}
 use Rattle.rules.specs.State.{State}
 use Rattle.rules.specs.Registers.{fresh}
 use Rattle.rules.specs.Reading.{read}
@@ -37,7 +38,7 @@ pub data Decoded : Type 0 where
   event : Event → Decoded
   bad : Decoded
 
--- its number: 0, or 12, "kind over 3, lock over 1, or unused field not 0"
+-- its number: 0, or 12, "kind over 3, lock over 1, or unused field not 0", which #106 has cover "kinds over 4 from now on"
 abbrev pub decodedNumber : Decoded → ℕ
 decodedNumber (event e) = 0
 decodedNumber bad = 12
@@ -45,13 +46,18 @@ decodedNumber bad = 12
 abbrev pub isZero : ℤ → Bool
 isZero z = eqb (natAbs z) 0
 
+-- "a 16-bit signed number", −32,768 to 32,767; `negsuc n` is −(n + 1)
+abbrev pub isOffset : ℤ → Bool
+isOffset (pos n) = leb n 32_767
+isOffset (negsuc n) = leb n 32_767
+
 -- "Kind 0 tick (a mask, b lock 0 or 1, word sample)"
 unfoldable pub tickOf : ℕ → ℕ → ℤ → Decoded
 tickOf a b w = if ltb 1 b then bad else event (tick a (eqb b 1) w)
 
--- "1 measurement (a input, b offset)"
+-- "1 measurement (a input, b offset)", of the old kind
 unfoldable pub measurementOf : ℕ → ℕ → ℤ → Decoded
-measurementOf a b w = if isZero w then event (measurement a (signedByte b)) else bad
+measurementOf a b w = if isZero w then event (oldKind a (signedByte b)) else bad
 
 -- "2 Hit"
 unfoldable pub hitOf : ℕ → ℕ → ℤ → Decoded
@@ -61,6 +67,10 @@ hitOf a b w = if eqb a 0 && eqb b 0 && isZero w then event hit else bad
 unfoldable pub writeOf : ℕ → ℕ → ℤ → Decoded
 writeOf a b w = if isZero w then event (write a b) else bad
 
+-- #106: "Sheet kind 4 has the input in a, b 0 and the offset in the word; a word outside −32,768 to 32,767 gives 12"
+unfoldable pub finerOf : ℕ → ℕ → ℤ → Decoded
+finerOf a b w = if eqb b 0 && isOffset w then event (measurement a w) else bad
+
 -- the fields of one event: kind, a, b and the word. "Unused fields are 0."
 unfoldable pub fields : ℕ → ℕ → ℕ → ℤ → Decoded
 fields kind a b w =
@@ -68,11 +78,15 @@ fields kind a b w =
     else (if eqb kind 1 then measurementOf a b w
     else (if eqb kind 2 then hitOf a b w
     else (if eqb kind 3 then writeOf a b w
-    else bad)))
+    else (if eqb kind 4 then finerOf a b w
+    else bad))))
 
--- "Event: kind, a, b, 0, 32-bit signed word low byte first": the first 8 bytes
+-- "Event: kind, a, b, 0, 32-bit signed word low byte first": the first 8 bytes, by a rule for the fields
+abbrev pub decodeBy : (ℕ → ℕ → ℕ → ℤ → Decoded) → List ℕ → Decoded
+decodeBy rule l = if eqb (getD l 3 0) 0 then rule (getD l 0 0) (getD l 1 0) (getD l 2 0) (signedWord (word32 l 4)) else bad
+
 unfoldable pub decode : List ℕ → Decoded
-decode l = if eqb (getD l 3 0) 0 then fields (getD l 0 0) (getD l 1 0) (getD l 2 0) (signedWord (word32 l 4)) else bad
+decode l = decodeBy fields l
 
 -- ---- the sections
 
@@ -130,15 +144,19 @@ unfoldable pub recordCount : List ℕ → ℕ
 recordCount s = settingsCount s + eventsCount s
 
 -- "Checking a sheet against an output's length returns its number, 0 if it will run". 9: "sheet over 65,535 bytes, or a settings count over 256";
--- 10: "sheet ends early"; 11: "bytes after the events"; the number of an event that is none; 13: "output under 4 bytes a record"
-unfoldable pub check : List ℕ → ℕ → ℕ
-check s room =
+-- 10: "sheet ends early"; 11: "bytes after the events"; the number of an event that is none; 13: "output under 4 bytes a record". `good` says that each event
+-- is one.
+abbrev pub checkBy : Bool → List ℕ → ℕ → ℕ
+checkBy good s room =
     if ltb 65_535 (length s) || ltb 256 (settingsCount s) then 9
     else (if ltb (length s) (sheetEnd s) then 10
     else (if ltb (sheetEnd s) (length s) then 11
-    else (if not (allEvents (eventsCount s) (drop (eventsAt s + 2) s)) then decodedNumber bad
+    else (if not good then decodedNumber bad
     else (if ltb room (4 * recordCount s) then 13
     else 0))))
+
+unfoldable pub check : List ℕ → ℕ → ℕ
+check s room = checkBy (allEvents (eventsCount s) (drop (eventsAt s + 2) s)) s room
 
 -- ---- the run
 
