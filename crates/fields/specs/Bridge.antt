@@ -3,7 +3,7 @@ use Prim.Native.Nat.{ℕ}
 use mathlib.Core.Bool.{_&&_}
 use lib.Dec.{eqb}
 use Rattle.rules.specs.Words.{if_then_else_}
-use Rattle.rules.specs.Events.{measurement, hit, write}
+use Rattle.rules.specs.Events.{oldKind, hit, write}
 use Rattle.rules.specs.Sheet as rules
 use Rattle.rules.specs.Sheet.{event, bad, signedByte}
 use Rattle.unit.specs.Events.{eventOf}
@@ -18,7 +18,7 @@ decodedOf Bad = bad
 -- the fields of an event of kind 1, 2 or 3, whose word is 0
 unfoldable pub wordlessOf : ℕ → ℕ → ℕ → rules.Decoded
 wordlessOf kind a b =
-    if eqb kind 1 then event (measurement a (signedByte b))
+    if eqb kind 1 then event (oldKind a (signedByte b))
     else (if eqb kind 2 then (if eqb a 0 && eqb b 0 then event hit else bad)
     else (if eqb kind 3 then event (write a b)
     else bad))

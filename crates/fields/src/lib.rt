@@ -1,9 +1,13 @@
-// The fields of one event of a run sheet (document 01, "Run sheet and rack program"): kind, a, b and the word.
+// The fields of one event of a run sheet (document 01, "Run sheet and rack program", and document 02, #106): kind, a, b and the word.
 // Each contract is an equation with a rule of crates/rules/specs/Sheet.antt through specs/Bridge.antt; the rule is named above the function.
 ghost use mathlib.Core.Path.{_≡_};
+ghost use mathlib.Core.Bool.{true};
+ghost use lib.IntN.{pos, _*ℤ_};
+ghost use Rattle.rules.specs.Events.{halfPpm};
 ghost use Rattle.rules.specs.Sheet as rules;
 ghost use Rattle.fields.specs.Bridge.{decodedOf, wordlessOf};
 use arith::both;
+use arith::wide16;
 use unit::Event;
 
 // What the fields are: an event, or none.
@@ -12,7 +16,7 @@ pub enum Decoded {
     Bad,
 }
 
-// The rule `decodedNumber`: 0 for an event; 12, "kind over 3, lock over 1, or unused field not 0".
+// The rule `decodedNumber`: 0 for an event; 12, "kind over 3, lock over 1, or unused field not 0", where #106 has 4 for 3.
 pub fn number_of(d: Decoded) -> u8
     ensures { λ r. ⌜ r ≡ rules.decodedNumber (decodedOf d) ⌝ }
 {
@@ -29,6 +33,26 @@ fn is_zero(word: i32) -> bool
     word == 0
 }
 
+// The rule `isOffset`: a number of 16 bits, -32768 to 32767.
+fn is_offset(word: i32) -> bool
+    ensures { λ r. ⌜ r ≡ rules.isOffset word ⌝ }
+{
+    if word < -32_768 {
+        return false;
+    }
+    word <= 32_767
+}
+
+// "A measurement of the old kind means 32 times its byte": from 128 on, where the byte is below 0, -1 less what it takes to be one step short of that.
+fn old_offset(b: u8) -> i16
+    ensures { λ r. ⌜ r ≡ pos halfPpm *ℤ rules.signedByte b ⌝ }
+{
+    if b < 128 {
+        return (32 * wide16(b)) as i16;
+    }
+    -1 - ((32 * wide16(255 - b) + 31) as i16)
+}
+
 // The rule `tickOf`: "Kind 0 tick (a mask, b lock 0 or 1, word sample)".
 fn tick_of(a: u8, b: u8, word: i32) -> Decoded
     ensures { λ r. ⌜ decodedOf r ≡ rules.tickOf a b word ⌝ }
@@ -39,12 +63,23 @@ fn tick_of(a: u8, b: u8, word: i32) -> Decoded
     Decoded::Event(Event::Tick(a, b == 1, word))
 }
 
+// The rule `finerOf`: "Sheet kind 4 has the input in a, b 0 and the offset in the word".
+fn finer_of(a: u8, b: u8, word: i32) -> Decoded
+    ensures { λ r. ⌜ decodedOf r ≡ rules.finerOf a b word ⌝ }
+{
+    let good = both(b == 0, is_offset(word));
+    if good {
+        return Decoded::Event(Event::Measurement(a, word as i16));
+    }
+    Decoded::Bad
+}
+
 // The kinds that do not use the word: "1 measurement (a input, b offset)", "2 Hit", "3 write (a address, b value)".
 fn wordless(kind: u8, a: u8, b: u8) -> Decoded
     ensures { λ r. ⌜ decodedOf r ≡ wordlessOf kind a b ⌝ }
 {
     if kind == 1 {
-        return Decoded::Event(Event::Measurement(a, b));
+        return Decoded::Event(Event::Measurement(a, old_offset(b)));
     }
     if kind == 2 {
         let unused = both(a == 0, b == 0);
@@ -59,12 +94,15 @@ fn wordless(kind: u8, a: u8, b: u8) -> Decoded
     Decoded::Bad
 }
 
-// The rule `fields`. The word is tested before the kinds that do not use it, so that a tick is told by one test.
+// The rule `fields`. The two kinds that use the word come first, the tick before the other, so that it is told by one test.
 pub fn decode(kind: u8, a: u8, b: u8, word: i32) -> Decoded
     ensures { λ r. ⌜ decodedOf r ≡ rules.fields kind a b word ⌝ }
 {
     if kind == 0 {
         return tick_of(a, b, word);
+    }
+    if kind == 4 {
+        return finer_of(a, b, word);
     }
     let unused = is_zero(word);
     if unused {

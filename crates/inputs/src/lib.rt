@@ -14,7 +14,6 @@ ghost use Rattle.rules.specs.Buckets.{freshBuckets, putAtSize};
 ghost use Rattle.buckets.specs.Bridge.{eight, bucketsOf};
 ghost use Rattle.buckets.specs.declared.Buckets as sets;
 ghost use Rattle.rules.specs.Reading.{maskUpTo};
-ghost use Rattle.rules.specs.Sheet.{signedByte};
 ghost use Rattle.inputs.specs.Bridge.{isSet, inputsOf, withFrequency, withLockAlarms, withSoak};
 ghost use Rattle.inputs.specs.declared.Monitors as stored;
 use arith::down;
@@ -60,15 +59,18 @@ pub fn fresh_monitors() -> Monitors
 
 // ---- a measurement
 
-// The magnitude of a byte in two's complement. No byte is negated: from 128 on it is 256 less the byte, so that of -128 is 128.
-fn magnitude(b: u8) -> u8
-    ensures { λ r. ⌜ r ≡ natAbs (signedByte b) ⌝ }
+// The magnitude of an offset. None is negated: below 0 it is one more than -1 - x, so that of -32768 is 32767 + 1.
+fn magnitude(x: i16) -> u16
+    ensures { λ r. ⌜ r ≡ natAbs x ⌝ }
 {
-    if b < 128 { b } else { 255 - b + 1 }
+    if x < 0 {
+        return ((-1 - x) as u16) + 1;
+    }
+    x as u16
 }
 
 // The rule `frequencyAfter`.
-fn frequency_of(reject: u8, limit: u8, magnitude: u8, frequency: u16) -> u16
+fn frequency_of(reject: u16, limit: u16, magnitude: u16, frequency: u16) -> u16
     ensures { λ r. ⌜ isSet r ≡ frequencyAfter reject limit magnitude (isSet frequency) ⌝ }
 {
     either(
@@ -115,9 +117,9 @@ fn number_at(row: &[u16; 8], k: usize) -> u16
     0
 }
 
-// A measurement of input i: `measured`.
-pub fn measure(frequency: &mut [u16; 8], i: u8, offset: u8, reject: u8, limit: u8)
-    ensures { λ _. ⌜ ((m : stored.Monitors) → inputsOf (withFrequency m (now (frequency .exit))) ≡ altered (measured reject limit (signedByte offset)) i (inputsOf (withFrequency m (now (frequency .entry))))) ⌝ }
+// A measurement of input i: `measured`. Offset and limits are in one unit.
+pub fn measure(frequency: &mut [u16; 8], i: u8, offset: i16, reject: u16, limit: u16)
+    ensures { λ _. ⌜ ((m : stored.Monitors) → inputsOf (withFrequency m (now (frequency .exit))) ≡ altered (measured reject limit offset) i (inputsOf (withFrequency m (now (frequency .entry))))) ⌝ }
 {
     let k = place(i);
     let old = number_at(frequency, k);

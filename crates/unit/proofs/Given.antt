@@ -1,11 +1,9 @@
 -- What an event does to what is stored, by its two cases: it is accepted, or turned down.
 use Prim.Native.Nat.{ℕ}
-use mathlib.Core.Path.{_≡_, refl, ap, _∙_, subst}
-use mathlib.Core.Bool.{Bool}
-use lib.IntN.{ℤ}
-use Rattle.rules.specs.Events.{Event, tick}
+use mathlib.Core.Path.{_≡_, refl, subst}
+use Rattle.rules.specs.Events.{Event}
 use Rattle.rules.specs.Refusals.{refusal}
-use Rattle.rules.specs.Run.{effect, outcome}
+use Rattle.rules.specs.Run.{effect}
 use Rattle.unit.specs.Bridge.{Stored, meaning, Gives}
 use Rattle.unit.proofs.Outcomes.{accepted-outcome, refused-outcome}
 
@@ -17,9 +15,9 @@ accepted s t e r z q = record { rules = accepted-outcome (meaning s) e r z q; le
 pub turned-down : (s : Stored) (e : Event) {n : ℕ} → n ≡ refusal (meaning s) e → (n ≡ 0 → ⊥) → Gives s e n s
 turned-down s e r z = record { rules = refused-outcome (meaning s) e r z; left = λ some. refl }
 
--- a tick with the same sample
-pub same-sample : {s t : Stored} {mask n : ℕ} {lock : Bool} {x y : ℤ} → x ≡ y → Gives s (tick mask lock x) n t → Gives s (tick mask lock y) n t
-same-sample {s} {mask = mask} {lock = lock} e g = record { rules = g .rules ∙ ap (λ (x : ℤ). outcome (meaning s) (tick mask lock x)) e; left = g .left }
+-- the same event
+pub same-event : {s t : Stored} {n : ℕ} {e f : Event} → e ≡ f → Gives s e n t → Gives s f n t
+same-event {s} {t} {n} p g = subst (λ (e : Event). Gives s e n t) p g
 
 -- the same is stored before
 pub same-start : {s r t : Stored} {e : Event} {n : ℕ} → s ≡ r → Gives s e n t → Gives r e n t

@@ -4,15 +4,14 @@
 ghost use mathlib.Core.Path.{_≡_};
 ghost use mathlib.Core.Bool.{true};
 ghost use mathlib.Core.List.{List};
-ghost use Prim.Native.Nat.{ℕ};
+ghost use Prim.Native.Nat.{ℕ, _*_};
 ghost use lib.Dec.{leb};
 ghost use lib.IntN.{ℤ, natAbs};
 ghost use lib.ListN.{length};
 ghost use Rattle.rules.specs.Registers as registers;
 ghost use Rattle.rules.specs.Registers.{inMap, settingsFrom};
-ghost use Rattle.rules.specs.Sheet.{signedByte};
 ghost use Rattle.rules.specs.Events as events;
-ghost use Rattle.rules.specs.Events.{sampleLimit};
+ghost use Rattle.rules.specs.Events.{halfPpm, sampleLimit};
 ghost use Rattle.rules.specs.Run.{afterWrite};
 ghost use Rattle.buckets.specs.Bridge.{numbers, numbersOf};
 ghost use Rattle.inputs.specs.Bridge as rows;
@@ -25,6 +24,7 @@ ghost use Rattle.unit.specs.Bridge.{Gives, withTally, partsOf, modelOf};
 ghost use Rattle.unit.specs.Events.{eventOf};
 ghost use Rattle.unit.specs.Lent.{across};
 use arith::one_to_eight;
+use arith::wide16;
 use history::History;
 use history::Tally;
 use history::places;
@@ -37,8 +37,8 @@ use tick::Core;
 pub enum Event {
     // irregular mask, lock flag, sample
     Tick(u8, bool, i32),
-    // input, offset as a byte in two's complement
-    Measurement(u8, u8),
+    // input, offset in 1/64 ppm
+    Measurement(u8, i16),
     Hit,
     // address, value
     Write(u8, u8),
@@ -118,14 +118,21 @@ fn on_tick(
     }
 }
 
+// A limit in steps of 1/64 ppm: "the limits are compared as 32 times theirs".
+fn in_steps(limit: u8) -> u16
+    ensures { λ r. ⌜ r ≡ halfPpm * limit ⌝ }
+{
+    32 * wide16(limit)
+}
+
 // A measurement, or refusal 6: "input not 1 to 8".
-fn on_measurement(i: u8, offset: u8, frequency: &mut [u16; 8], regs: &[u8; 27]) -> u8
-    ensures { λ r. ⌜ ((k : core.Core) (m : stored.Monitors) (sums building backup : List ℤ) → Gives (record { core = k; rows = withFrequency m (now (frequency .entry)); regs = now (regs .entry); sums = sums; building = building; backup = backup }) (events.measurement i (signedByte offset)) r (record { core = k; rows = withFrequency m (now (frequency .exit)); regs = now (regs .entry); sums = sums; building = building; backup = backup })) ⌝ }
+fn on_measurement(i: u8, offset: i16, frequency: &mut [u16; 8], regs: &[u8; 27]) -> u8
+    ensures { λ r. ⌜ ((k : core.Core) (m : stored.Monitors) (sums building backup : List ℤ) → Gives (record { core = k; rows = withFrequency m (now (frequency .entry)); regs = now (regs .entry); sums = sums; building = building; backup = backup }) (events.measurement i offset) r (record { core = k; rows = withFrequency m (now (frequency .exit)); regs = now (regs .entry); sums = sums; building = building; backup = backup })) ⌝ }
 {
     let ok = one_to_eight(i);
     if ok {
-        let reject = registers::setting(regs, 0x44);
-        let qualification = registers::setting(regs, 0x45);
+        let reject = in_steps(registers::setting(regs, 0x44));
+        let qualification = in_steps(registers::setting(regs, 0x45));
         inputs::measure(frequency, i, offset, reject, qualification);
         return 0;
     }

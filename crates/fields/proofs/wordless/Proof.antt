@@ -1,16 +1,25 @@
 -- Each arm decides the kind; the fields of a Hit are tested together.
-use mathlib.Core.Path.{_≡_, refl, sym, _∙_}
+use mathlib.Core.Path.{_≡_, refl, ap, sym, _∙_}
 use mathlib.Core.Bool.{Bool, true, false, _&&_}
 use lib.Dec.{eqb}
+use lib.IntN.{ℤ}
 use borrow.Author.Needs.{needs}
+use mir.Syntax.{w16}
+use mir.Val.{toZ, ofZ}
 use borrow.Author.Tests.{ne-eqb}
+use Rattle.rules.specs.Events.{measurement}
+use Rattle.rules.specs.Sheet.{event}
 use Rattle.fields.specs.Bridge.{wordlessOf}
 use Rattle.fields.proofs.wordless.Statement.{statement}
 use Rattle.fields.proofs.wordless.Tie as tie
 
+-- the offset of the old kind, as the machine has it
+kept : (c : tie.After-old-offset) → toZ w16 (ofZ w16 (c .old-offset .result)) ≡ c .old-offset .result
+kept c = search needs
+
 returns : tie.Need-returns
 unfolding wordlessOf
-returns c = rw (c .if1 .taken) refl
+returns c = rw (c .before .if1 .taken, kept c) (ap (λ (x : ℤ). event (measurement (c .before .before .args .a) x)) (c .old-offset .ensures))
 
 -- the test of a Hit's two fields is the rule's
 hit-test : (c : tie.After-both) (t : Bool) → c .both .result ≡ t
@@ -37,4 +46,4 @@ returns-5 c =
     rw (ne-eqb k 1 (c .before .before .if1 .left), ne-eqb k 2 (c .before .if2 .left), ne-eqb k 3 (c .if4 .left)) refl
 
 pub wordless-spec : {M : Type 1} → statement M
-wordless-spec = tie.close (tie.spec returns (search needs) returns-2 returns-3 returns-4 returns-5)
+wordless-spec = tie.close (tie.spec (search needs) returns (search needs) returns-2 returns-3 returns-4 returns-5)

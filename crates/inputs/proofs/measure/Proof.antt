@@ -1,10 +1,11 @@
 -- Input i's frequency alarm alone is another (`altered-lane`).
-use mathlib.Core.Path.{_∙_}
+use mathlib.Core.Path.{ap, _∙_}
+use lib.IntN.{natAbs}
 use lib.ListN.{set}
 use lib.Seq.{getD-set-other}
 use denote.Ref.{now}
+use mir.Facts.{toZ-ofZ}
 use Rattle.rules.specs.Monitors.{frequencyAfter, measured}
-use Rattle.rules.specs.Sheet.{signedByte}
 use Rattle.inputs.specs.Bridge.{isSet, inputAt, inputsOf, withFrequency}
 use Rattle.inputs.proofs.Lanes.{alarmed, same-at, altered-lane}
 use Rattle.inputs.proofs.measure.Statement.{statement}
@@ -23,10 +24,10 @@ returns c m =
     let old = withFrequency m f in
     let v = judged .frequency-of .result in
     let frequency = c .put .ensures in
-    let rule = judged .frequency-of .ensures
-    ∙ (λ t. frequencyAfter (a .reject) (a .limit) (sized .magnitude .ensures t) (isSet (read .number-at .ensures t))) in
+    let size = sized .magnitude .ensures ∙ ap natAbs (toZ-ofZ (placed .before .fits .offset)) in
+    let rule = judged .frequency-of .ensures ∙ (λ t. frequencyAfter (a .reject) (a .limit) (size t) (isSet (read .number-at .ensures t))) in
     (λ t. inputsOf (withFrequency m (frequency .0 t)))
-    ∙ altered-lane (measured (a .reject) (a .limit) (signedByte (a .offset))) old (withFrequency m (set f k v)) (a .i) (placed .place .ensures)
+    ∙ altered-lane (measured (a .reject) (a .limit) (a .offset)) old (withFrequency m (set f k v)) (a .i) (placed .place .ensures)
     (λ h. let x = inputAt old k in
     (λ t. alarmed x (isSet (same-at f k v (frequency .1) h t)) (x .remainder) (x .soak)) ∙ (λ t. alarmed x (rule t) (x .remainder) (x .soak)))
     (λ j n t. let x = inputAt old j in alarmed x (isSet (getD-set-other f k j v 0 n t)) (x .remainder) (x .soak))

@@ -1,12 +1,13 @@
 -- Each event is handled by its own function, with the arrays that it changes; the others stay.
 use mathlib.Core.Path.{_≡_}
 use denote.Ref.{now}
-use mir.Syntax.{w32}
+use mir.Syntax.{w16, w32}
 use mir.Val.{toZ, ofZ}
 use borrow.Author.Needs.{needs}
+use Rattle.rules.specs.Events.{tick, measurement}
 use Rattle.buckets.specs.declared.Buckets.{Buckets}
 use Rattle.inputs.specs.declared.Monitors.{Monitors}
-use Rattle.unit.proofs.Given.{same-sample}
+use Rattle.unit.proofs.Given.{same-event}
 use Rattle.unit.proofs.step.Statement.{statement}
 use Rattle.unit.proofs.step.Tie as tie
 
@@ -27,6 +28,10 @@ rows s buckets =
 sample : (c : tie.After-known-told) → let x = c .before .e .given .0 .1 .1 .0 in toZ w32 (ofZ w32 x) ≡ x
 sample c = search needs
 
+-- a measurement's offset, likewise
+offset : (c : tie.After-known-told2) → let x = c .before .e2 .given .0 .1 .0 in toZ w16 (ofZ w16 x) ≡ x
+offset c = search needs
+
 returns : tie.Need-returns
 returns c =
     let known = c .before .before .before .before .before .before .before .before .before .before .before in
@@ -35,16 +40,22 @@ returns c =
     let a = sized .before .before .args in (
       (λ buckets lanes keyed.
           rw (told .e .given .1)
-          (same-sample (sample known) (c .on-tick .ensures buckets (now (a .backup)) lanes (sized .places .ensures) keyed))),
+          (same-event (λ i. tick (told .e .given .0 .0) (told .e .given .0 .1 .0) (sample known i)) (c .on-tick .ensures buckets (now (a .backup)) lanes (sized .places .ensures) keyed))),
       (λ keyed. keyed),
     )
 
 returns-2 : tie.Need-returns-2
 returns-2 c =
-    let told = c .before .before .before .before in
+    let known = c .before .before .before in
+    let told = known .before in
     let start = told .before .before .before .before .before .before in
-    let a = start .args in
-    ((λ buckets lanes keyed. rw (told .e2 .given .1) (c .on-measurement .ensures (a .k) (rows start buckets) (now (a .sums)) (now (a .building)) (now (a .backup)))), (λ keyed. keyed))
+    let a = start .args in (
+      (λ buckets lanes keyed.
+          rw (told .e2 .given .1)
+          (same-event (λ i. measurement (told .e2 .given .0 .0) (offset known i))
+          (c .on-measurement .ensures (a .k) (rows start buckets) (now (a .sums)) (now (a .building)) (now (a .backup))))),
+      (λ keyed. keyed),
+    )
 
 returns-3 : tie.Need-returns-3
 returns-3 c =
