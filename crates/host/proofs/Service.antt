@@ -1,8 +1,8 @@
--- Demands 2 and 3, and requests #102, #104 and #105, of the unit itself, proved: what the host holds is the rules' run.
+-- Demands 2 and 3, and requests #102, #104, #105 and #106, of the unit itself, proved: what the host holds is the rules' run.
 use Prim.Native.Nat.{ℕ}
 use mathlib.Core.Path.{_≡_, refl, ap, sym, _∙_}
 use mathlib.Core.Logic.{inl, inr}
-use mathlib.Core.List.{List, [], _∷_, _++_}
+use mathlib.Core.List.{List, [], _∷_, _++_, map}
 use Rattle.rules.specs.Events.{Event}
 use Rattle.rules.specs.State.{State, Ready, selected}
 use Rattle.rules.specs.History.{ready}
@@ -10,18 +10,20 @@ use Rattle.rules.specs.Reading.{read}
 use Rattle.rules.specs.Loading.{freshFrom, loading, Fresh}
 use Rattle.rules.specs.Run as rules
 use Rattle.rules.specs.Run.{outcome, run}
+use Rattle.rules.specs.FinerReadings.{finer}
 use Rattle.rules.specs.Service.{Served}
 use Rattle.rules.specs.Sheet.{Decoded, event, bad}
 use Rattle.rules.proofs.Loading.{standard}
 use Rattle.rules.proofs.Promise.{promise, promise-in-figures, promise-at-start}
 use Rattle.rules.proofs.Comparison.{never-less-ready}
+use Rattle.rules.proofs.FinerReadings.{finer-readings}
 use Rattle.rules.proofs.Standing.{ends-by-command-3}
 use Rattle.history.proofs.Kept.{ready-kept}
 use Rattle.unit.specs.Bridge.{modelOf}
 use Rattle.unit.specs.declared.Unit.{Unit as Stored}
 use Rattle.loading.proofs.Checks.{loaded}
 use Rattle.host.specs.Lent.{Places, given, Leads, wordOf}
-use Rattle.host.specs.Service.{Call, ofEvent, ofSet, ofAssign, ofLoad, decoded, with, eventsOf, Answers, Lent, Begins, Holds, ownReady, Agreement, UnitServed, UnitPromise, UnitPromiseInFigures, UnitPromiseAtStart, UnitNeverLessReady, UnitEndsByCommand3}
+use Rattle.host.specs.Service.{Call, ofEvent, ofSet, ofAssign, ofLoad, decoded, with, eventsOf, Answers, Lent, Begins, Holds, ownReady, Agreement, UnitServed, UnitPromise, UnitPromiseInFigures, UnitPromiseAtStart, UnitNeverLessReady, UnitEndsByCommand3, UnitAsBefore}
 
 -- one call: the rules go on from the state that it left
 led-on : (u w : Stored) (d : Decoded) (n : ℕ) (es : List Event) → Leads u (given d) n w → run (modelOf u) (with d es) ≡ run (modelOf w) es
@@ -128,3 +130,9 @@ pub unit-ends-by-command-3 : UnitEndsByCommand3
 unit-ends-by-command-3 start es e u v before after was is =
     ends-by-command-3 start (held-fresh start es u before) es e (sym (agreement start es u before .ready-is) ∙ was)
     (sym (agreement start (es ++ e ∷ []) v after .ready-is) ∙ is)
+
+-- REQUEST #106 OF THE UNIT
+pub unit-as-before : UnitAsBefore
+unit-as-before start es u h =
+    let is = held-state start (map finer es) u h ∙ finer-readings .history-as-before start es in
+    (is, (λ address n shown. shown ∙ ap (λ (s : State). wordOf (read s address)) is))

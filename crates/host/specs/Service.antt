@@ -1,9 +1,9 @@
--- Document 01, demands 2 and 3, and requests #102, #104 and #105, of the unit itself: what a host holds that makes a unit and lends it for each event and call.
+-- Document 01, demands 2 and 3, and requests #102, #104, #105 and #106, of the unit itself: what a host holds that makes a unit and lends it for each event and call.
 use Prim.Native.Nat.{ℕ, _+_, _-_, _*_, _^_, _≤_, max}
 use mathlib.Core.Path.{_≡_}
 use mathlib.Core.Logic.{_⊎_}
 use mathlib.Core.Bool.{Bool, true, false}
-use mathlib.Core.List.{List, [], _∷_, _++_}
+use mathlib.Core.List.{List, [], _∷_, _++_, map}
 use lib.Dec.{leb}
 use lib.IntN.{ℤ}
 use Rattle.rules.specs.Events.{Event, write, setBucket, assignBucket}
@@ -17,8 +17,10 @@ use Rattle.rules.specs.Refusals.{accepted}
 use Rattle.rules.specs.Run.{run}
 use Rattle.rules.specs.Loading.{freshFrom, loading}
 use Rattle.rules.specs.OldHistory.{oldRun}
+use Rattle.rules.specs.OldReadings.{coarseRun}
 use Rattle.rules.specs.Sheet.{Decoded, event, bad, fields}
 use Rattle.rules.specs.Laws.{LeastDelay}
+use Rattle.rules.specs.FinerReadings.{finer}
 use Rattle.rules.specs.Service.{Provisos, selectedTicks, readyTicks, acceptedTicks}
 use Rattle.unit.specs.Bridge.{modelOf}
 use Rattle.unit.specs.declared.Unit.{Unit as Stored}
@@ -159,3 +161,13 @@ UnitEndsByCommand3 =
     → ownReady u ≡ true
     → ownReady v ≡ false
     → (e ≡ write 0x26 3) × (accepted (run start es) e ≡ true)
+
+-- ---- request #106: the finer readings
+
+-- A history whose measurements are all of the old kind leaves the unit in the state that it had before, and each register with it: es has its offsets in
+-- 0.5 ppm, and what the host sent are the same as they are now.
+abbrev pub UnitAsBefore : Type 0
+UnitAsBefore =
+    (start : State) (es : List Event) (u : Stored)
+    → Holds start (map finer es) u
+    → (modelOf u ≡ coarseRun start es) × ((address n : ℕ) → Shows u address n → n ≡ wordOf (read (coarseRun start es) address))
