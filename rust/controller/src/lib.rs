@@ -7,7 +7,7 @@
 
 mod words;
 
-pub use words::{reason, HIT, MEASUREMENT, STATES, TICK, WRITE};
+pub use words::{reason, FINER_MEASUREMENT, HIT, MEASUREMENT, STATES, TICK, WRITE};
 
 use std::mem::{align_of, size_of};
 

@@ -6,6 +6,8 @@ pub const TICK: u8 = 0;
 pub const MEASUREMENT: u8 = 1;
 pub const HIT: u8 = 2;
 pub const WRITE: u8 = 3;
+/// A measurement in 1/64 ppm: document 02's #106.
+pub const FINER_MEASUREMENT: u8 = 4;
 
 /// The names of the states by their numbers, the upper digit of 0x48.
 pub const STATES: [&str; 6] = [
@@ -17,8 +19,8 @@ pub const STATES: [&str; 6] = [
     "Pre-locked 2",
 ];
 
-/// "Turned down", from 1 on; what 13 also means is document 02's, #101, and 14
-/// and 15 are of its #104 and #105.
+/// "Turned down", from 1 on; what 12 and 13 also mean is document 02's, #106 and
+/// #101, and 14 and 15 are of its #104 and #105.
 const REASONS: [&str; 15] = [
     "address not in the map",
     "write to a read-only register",
@@ -31,7 +33,7 @@ const REASONS: [&str; 15] = [
     "sheet over 65,535 bytes, or a settings count over 256",
     "sheet ends early",
     "bytes after the events",
-    "kind over 3, lock over 1, or unused field not 0",
+    "kind over 4, lock over 1, offset word outside -32,768 to 32,767, or unused field not 0",
     "output under 4 bytes a record, or page output under 1,400 bytes a page",
     "bucket set out of its bounds, or set number over 3",
     "table not 27 bytes, a forbidden nonzero, a value above the register's largest, or reject - qualification under 6",
