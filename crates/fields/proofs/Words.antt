@@ -6,7 +6,7 @@ use native.Mathlib.Omega.{arith}
 use lib.Dec.{eqb, eqb·suc-zero}
 use lib.IntN.{ℤ, pos, negsuc, negℤ, _-ℤ_, _*ℤ_}
 use lib.Signed.{ltZ, leZ}
-use borrow.Author.Tests.{ltb-true, ltb-false, lt-ltb, le-ltb, leb-true, le-leb, lt-leb, ne-eqb}
+use borrow.Author.Tests.{ltb-true, ltb-false, lt-ltb, le-ltb, leb-true, le-leb, lt-leb, eqb-true, ne-eqb}
 use mir.Syntax.{w16, w32}
 use mir.Val.{SFits, toZ, ofZ}
 use mir.Facts.{toZ-pos}
@@ -18,6 +18,11 @@ use Rattle.arith.proofs.Signed.{flip-stored}
 pub zero-word : (z : ℤ) → SFits w32 z → eqb (ofZ w32 z) 0 ≡ isZero z
 zero-word (pos n) fits = refl
 zero-word (negsuc n) fits = ne-eqb (ofZ w32 (negsuc n)) 0 (λ e. omega (arith, fits, e)) ∙ sym (eqb·suc-zero n)
+
+-- the number that is 0
+pub zero-is : (z : ℤ) → isZero z ≡ true → z ≡ pos 0
+zero-is (pos n) h = ap pos (eqb-true n 0 h)
+zero-is (negsuc n) h = absurd (true≢false (sym h ∙ eqb·suc-zero n))
 
 -- a number below -32768, and one that is not
 pub below-offsets : (z : ℤ) → ltZ z (negsuc 32_767) ≡ true → isOffset z ≡ false

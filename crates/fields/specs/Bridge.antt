@@ -2,6 +2,7 @@
 use Prim.Native.Nat.{ℕ}
 use mathlib.Core.Bool.{_&&_}
 use lib.Dec.{eqb}
+use lib.IntN.{pos}
 use Rattle.rules.specs.Words.{if_then_else_}
 use Rattle.rules.specs.Events.{oldKind, hit, write}
 use Rattle.rules.specs.Sheet as rules
@@ -15,10 +16,11 @@ abbrev pub decodedOf : Decoded → rules.Decoded
 decodedOf (Event e) = event (eventOf e)
 decodedOf Bad = bad
 
--- the fields of an event of kind 1, 2 or 3, whose word is 0
+-- the fields of an event that is no tick, whose word is 0
 unfoldable pub wordlessOf : ℕ → ℕ → ℕ → rules.Decoded
 wordlessOf kind a b =
     if eqb kind 1 then event (oldKind a (signedByte b))
     else (if eqb kind 2 then (if eqb a 0 && eqb b 0 then event hit else bad)
     else (if eqb kind 3 then event (write a b)
-    else bad))
+    else (if eqb kind 4 then rules.finerOf a b (pos 0)
+    else bad)))

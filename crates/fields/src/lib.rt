@@ -74,7 +74,8 @@ fn finer_of(a: u8, b: u8, word: i32) -> Decoded
     Decoded::Bad
 }
 
-// The kinds that do not use the word: "1 measurement (a input, b offset)", "2 Hit", "3 write (a address, b value)".
+// The fields of every kind but a tick, where the word is 0: "1 measurement (a input, b offset)", "2 Hit", "3 write (a address, b value)", and kind 4 with an
+// offset of 0.
 fn wordless(kind: u8, a: u8, b: u8) -> Decoded
     ensures { λ r. ⌜ decodedOf r ≡ wordlessOf kind a b ⌝ }
 {
@@ -91,22 +92,26 @@ fn wordless(kind: u8, a: u8, b: u8) -> Decoded
     if kind == 3 {
         return Decoded::Event(Event::Write(a, b));
     }
+    if kind == 4 {
+        return finer_of(a, b, 0);
+    }
     Decoded::Bad
 }
 
-// The rule `fields`. The two kinds that use the word come first, the tick before the other, so that it is told by one test.
+// The rule `fields`. A word of 0 is told before the kinds but the tick, so that a tick is told by one test: beside the tick's, a test of kind 4 would become one
+// more of each tick.
 pub fn decode(kind: u8, a: u8, b: u8, word: i32) -> Decoded
     ensures { λ r. ⌜ decodedOf r ≡ rules.fields kind a b word ⌝ }
 {
     if kind == 0 {
         return tick_of(a, b, word);
     }
-    if kind == 4 {
-        return finer_of(a, b, word);
-    }
     let unused = is_zero(word);
     if unused {
         return wordless(kind, a, b);
+    }
+    if kind == 4 {
+        return finer_of(a, b, word);
     }
     Decoded::Bad
 }

@@ -41,9 +41,16 @@ returns-4 c = rw (c .if4 .taken) refl
 
 returns-5 : tie.Need-returns-5
 unfolding wordlessOf
-returns-5 c =
-    let k = c .before .before .before .args .kind in
-    rw (ne-eqb k 1 (c .before .before .if1 .left), ne-eqb k 2 (c .before .if2 .left), ne-eqb k 3 (c .if4 .left)) refl
+returns-5 c = rw (c .before .if5 .taken) (c .finer-of .ensures)
+
+returns-6 : tie.Need-returns-6
+unfolding wordlessOf
+returns-6 c =
+    let not3 = c .before in
+    let not2 = not3 .before in
+    let not1 = not2 .before in
+    let k = not1 .before .args .kind in
+    rw (ne-eqb k 1 (not1 .if1 .left), ne-eqb k 2 (not2 .if2 .left), ne-eqb k 3 (not3 .if4 .left), ne-eqb k 4 (c .if5 .left)) refl
 
 pub wordless-spec : {M : Type 1} → statement M
-wordless-spec = tie.close (tie.spec (search needs) returns (search needs) returns-2 returns-3 returns-4 returns-5)
+wordless-spec = tie.close (tie.spec (search needs) returns (search needs) returns-2 returns-3 returns-4 (search needs) returns-5 returns-6)
