@@ -39,6 +39,9 @@ impl fmt::Display for Fields {
             Some(Event::Write { address, value }) => {
                 write!(f, "write {:#04x} = {:#04x}", address, value)
             }
+            Some(Event::FinerMeasurement { input, offset }) => {
+                write!(f, "finer measurement input {} offset {}", input, offset)
+            }
             None => write!(
                 f,
                 "no event: kind {} a {:#04x} b {:#04x} word {}",

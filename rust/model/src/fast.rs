@@ -13,7 +13,7 @@ use crate::blocks::{BLOCKS_KEPT, SAMPLES_PER_BLOCK};
 use crate::buckets::{Buckets, Call};
 use crate::event::Event;
 use crate::history::BLOCKS_FOR_READY;
-use crate::monitors::{LOCK_ALARM_TICKS, SOAK_TICKS};
+use crate::monitors::{finer_limit, finer_offset, LOCK_ALARM_TICKS, SOAK_TICKS};
 use crate::pll::{Pll, State, UNLOCK_TICKS};
 use crate::refusal::{number_of, Refusal};
 use crate::registers::{Register, Settings};
@@ -100,12 +100,13 @@ impl Monitors {
         self.empty_soak(input);
     }
 
-    fn measure(&mut self, input: u8, offset: i8, settings: &Settings) {
+    /// The offset is in 1/64 ppm.
+    fn measure(&mut self, input: u8, offset: i16, settings: &Settings) {
         let magnitude = offset.unsigned_abs();
         let alarm = &mut self.frequency_alarm[usize::from(input) - 1];
-        if magnitude > settings.reject {
+        if magnitude > finer_limit(settings.reject) {
             *alarm = 1;
-        } else if magnitude <= settings.qualification {
+        } else if magnitude <= finer_limit(settings.qualification) {
             *alarm = 0;
         }
     }
@@ -320,10 +321,16 @@ impl Unit {
                 return Err(Refusal::SampleOutOfRange)
             }
             Event::Tick { mask, lock, sample } => self.tick(mask, lock, sample),
-            Event::Measurement { input, .. } if !REFERENCES.contains(&input) => {
+            Event::Measurement { input, .. } | Event::FinerMeasurement { input, .. }
+                if !REFERENCES.contains(&input) =>
+            {
                 return Err(Refusal::NoSuchInput)
             }
             Event::Measurement { input, offset } => {
+                let offset = finer_offset(offset);
+                self.monitors.measure(input, offset, &self.settings)
+            }
+            Event::FinerMeasurement { input, offset } => {
                 self.monitors.measure(input, offset, &self.settings)
             }
             Event::Hit if !self.reference_selected() => return Err(Refusal::NoReferenceToHit),

@@ -28,7 +28,7 @@ pub use blocks::{Blocks, OpenBlock, BLOCKS_KEPT, SAMPLES_PER_BLOCK};
 pub use buckets::{BucketSet, Buckets, Call, BUCKET_SETS};
 pub use event::Event;
 pub use history::{History, BLOCKS_FOR_READY};
-pub use monitors::{Input, LOCK_ALARM_TICKS, SOAK_TICKS};
+pub use monitors::{finer_limit, finer_offset, Input, LOCK_ALARM_TICKS, SOAK_TICKS};
 pub use pages::{pages, pages_of, print, BYTES_PER_PAGE, COLUMNS, LINES_PER_PAGE};
 pub use pll::{Pll, State, LOCK_TICKS, UNLOCK_TICKS};
 pub use reading::TICKS_PER_HOUR;

@@ -7,6 +7,18 @@ pub const SOAK_TICKS: u8 = 79;
 /// What a lock alarm's remainder starts from.
 pub const LOCK_ALARM_TICKS: u16 = 782;
 
+/// Document 02, #106: "A measurement of the old kind means 32 times its byte":
+/// its offset in 1/64 ppm.
+pub fn finer_offset(byte: i8) -> i16 {
+    32 * i16::from(byte)
+}
+
+/// Document 02, #106: "the limits are compared as 32 times theirs": a limit in
+/// 1/64 ppm.
+pub fn finer_limit(limit: u8) -> u16 {
+    32 * u16::from(limit)
+}
+
 #[derive(Clone, Copy, Debug, PartialEq, Eq)]
 pub struct Input {
     /// The activity bucket's level.
@@ -100,13 +112,14 @@ impl Input {
 
     /// "A measurement's magnitude above the reject limit sets the frequency
     /// alarm; at or below the qualification limit clears it; between, it is
-    /// kept."
-    pub fn measure(&mut self, offset: i8, reject: u8, qualification: u8) {
-        // The magnitude of −128 is 128, which an unsigned byte holds.
+    /// kept." The offset is in 1/64 ppm, of whichever kind the measurement is.
+    pub fn measure(&mut self, offset: i16, reject: u8, qualification: u8) {
+        // The magnitude of −32,768 is 32,768, which an unsigned 16-bit number
+        // holds.
         let magnitude = offset.unsigned_abs();
-        if magnitude > reject {
+        if magnitude > finer_limit(reject) {
             self.frequency_alarm = true;
-        } else if magnitude <= qualification {
+        } else if magnitude <= finer_limit(qualification) {
             self.frequency_alarm = false;
         }
     }

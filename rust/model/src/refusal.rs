@@ -25,7 +25,9 @@ pub enum Refusal {
     EndsEarly = 10,
     /// "bytes after the events"
     BytesAfterEvents = 11,
-    /// "kind over 3, lock over 1, or unused field not 0"
+    /// "kind over 3, lock over 1, or unused field not 0"; in document 02, #106:
+    /// "a word outside −32,768 to 32,767 gives 12, which covers kinds over 4
+    /// from now on"
     NoEvent = 12,
     /// "output under 4 bytes a record"; in document 02, #101: "a page output
     /// under 1,400 bytes a page"

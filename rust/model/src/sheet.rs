@@ -169,10 +169,11 @@ pub(crate) fn setting(bytes: &[u8]) -> Option<Event> {
 /// Reading: an input not 1 to 8 or a sample out of range is no fault of the
 /// sheet; the event's record has 6 or 7.
 ///
-/// Always compiled into its callers: the tuned model's speed hangs on it.
+/// Always compiled into its callers, and the word read from its four bytes at
+/// once: the tuned model's speed hangs on both.
 #[inline(always)]
 pub(crate) fn event(bytes: &[u8]) -> Option<Event> {
-    let word = i32::from_le_bytes([bytes[4], bytes[5], bytes[6], bytes[7]]);
+    let word = i32::from_le_bytes(bytes[4..8].try_into().expect("four bytes"));
     match bytes[3] {
         0 => Event::from_fields(bytes[0], bytes[1], bytes[2], word),
         _ => None,

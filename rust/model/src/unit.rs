@@ -4,7 +4,7 @@ use crate::buckets::{Buckets, Call};
 use crate::building::Building;
 use crate::event::Event;
 use crate::history::{HistoryUnder, SwitchRules};
-use crate::monitors::Input;
+use crate::monitors::{finer_offset, Input};
 use crate::old_rules::OldRules;
 use crate::pll::{Pll, State, UNLOCK_TICKS};
 use crate::refusal::{number_of, Refusal};
@@ -71,9 +71,10 @@ impl<R: SwitchRules> UnitUnder<R> {
     pub fn event(&mut self, event: &Event) -> u8 {
         let outcome = match *event {
             Event::Tick { mask, lock, sample } => self.tick(mask, lock, sample),
-            Event::Measurement { input, offset } => self.measurement(input, offset),
+            Event::Measurement { input, offset } => self.measurement(input, finer_offset(offset)),
             Event::Hit => self.hit(),
             Event::Write { address, value } => self.write(address, value),
+            Event::FinerMeasurement { input, offset } => self.measurement(input, offset),
         };
         number_of(outcome)
     }
@@ -167,7 +168,8 @@ impl<R: SwitchRules> UnitUnder<R> {
         self.holdover_ticks = if stayed { self.holdover_ticks + 1 } else { 0 };
     }
 
-    fn measurement(&mut self, input: u8, offset: i8) -> Result<(), Refusal> {
+    /// A measurement of either kind, its offset in 1/64 ppm.
+    fn measurement(&mut self, input: u8, offset: i16) -> Result<(), Refusal> {
         if !(1..=8).contains(&input) {
             return Err(Refusal::NoSuchInput);
         }

@@ -123,7 +123,7 @@ fn number_8_command_not_possible() {
 #[test]
 fn number_12_fields_that_are_no_event() {
     let no_events = [
-        (4, 0, 0, 0),
+        (5, 0, 0, 0),
         (255, 0, 0, 0),
         (0, 0, 2, 0),
         (0, 0, 255, 125_000_001),

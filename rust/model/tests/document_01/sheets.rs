@@ -256,7 +256,7 @@ fn number_11_bytes_after_the_events() {
 #[test]
 fn number_12_a_kind_a_lock_or_an_unused_field() {
     let faults = [
-        [4, 0, 0, 0, 0, 0, 0, 0],
+        [5, 0, 0, 0, 0, 0, 0, 0],
         [255, 0, 0, 0, 0, 0, 0, 0],
         [0, 0, 2, 0, 0, 0, 0, 0],
         [0, 0, 255, 0, 0, 0, 0, 0x80],
@@ -309,7 +309,7 @@ fn number_13_an_output_under_4_bytes_a_record() {
 fn the_lower_number_comes_first() {
     let good = sheet_of(&[(0x40, 1)], &[CLEAN_TICK, Event::Hit]);
     let mut bad_kind = good.clone();
-    bad_kind[6] = 4;
+    bad_kind[6] = 5;
     let longer = [&bad_kind[..], &[0]].concat();
     for (sheet, number) in [
         (&bad_kind[..], 12),

@@ -6,6 +6,7 @@
 #[path = "../document_01/bench.rs"]
 mod bench;
 mod bucket_sets;
+mod finer_readings;
 mod fresh_values;
 mod kept_value;
 mod old_rules;

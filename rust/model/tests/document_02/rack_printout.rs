@@ -240,7 +240,7 @@ fn number_13_for_either_output() {
 fn numbers_9_to_12_come_before_13() {
     let good = sheet(2, 60);
     let mut bad_kind = good.clone();
-    bad_kind[8] = 4;
+    bad_kind[8] = 5;
     let longer = [&bad_kind[..], &[0]].concat();
     let shorter = &bad_kind[..bad_kind.len() - 1];
     let too_long = vec![0; 65_536];
