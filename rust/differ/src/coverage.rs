@@ -3,8 +3,10 @@
 
 mod buckets;
 mod histories;
+mod readings;
 mod tables;
 
+use crate::fields::Fields;
 use crate::report::never_reached;
 use crate::table::Table;
 use model::{
@@ -16,6 +18,8 @@ use model::{
 /// what the old rules of the history made of it.
 pub struct Moment<'a> {
     pub before: &'a Unit,
+    /// None for a call and a table.
+    pub fields: Option<Fields>,
     /// None for a call and a table, and if the fields were no event.
     pub event: Option<Event>,
     pub call: Option<Call>,
@@ -122,12 +126,13 @@ impl Item {
 }
 
 /// The items in parts: those of #104 need not be asked where no bucket set
-/// plays a part, nor those of #105 where no table does. That saves a third of
-/// the time.
+/// plays a part, nor those of #105 where no table does, nor those of #106 where
+/// nothing is measured. That saves a third of the time.
 pub struct Coverage {
     items: Vec<Item>,
     of_buckets: Vec<Item>,
     of_tables: Vec<Item>,
+    of_readings: Vec<Item>,
     pub lists: u64,
     pub events: u64,
     reads: [u64; 256],
@@ -140,6 +145,7 @@ impl Coverage {
             items: items(conditions()),
             of_buckets: items(buckets::conditions()),
             of_tables: items(tables::conditions()),
+            of_readings: items(readings::conditions()),
             lists: 0,
             events: 0,
             reads: [0; 256],
@@ -153,6 +159,7 @@ impl Coverage {
             (events, &mut self.items),
             (events && moment.concerns_buckets(), &mut self.of_buckets),
             (moment.concerns_tables(), &mut self.of_tables),
+            (moment.concerns_readings(), &mut self.of_readings),
         ] {
             if asked {
                 let reached = items.iter_mut().filter(|item| (item.condition)(moment));
@@ -177,7 +184,7 @@ impl Coverage {
     /// Each item with its count; the last is the reading of all addresses.
     pub fn counts(&self) -> Vec<(&str, u64)> {
         let items = self.items.iter().chain(&self.of_buckets);
-        let items = items.chain(&self.of_tables);
+        let items = items.chain(&self.of_tables).chain(&self.of_readings);
         let mut counts: Vec<_> = items.map(|item| (item.name.as_str(), item.count)).collect();
         let least = self.reads.iter().copied().min().unwrap_or(0);
         counts.push(("reads of the least read of all 256 addresses", least));
@@ -190,7 +197,8 @@ impl Coverage {
     }
 }
 
-/// The items but those of the bucket sets and tables, each with its condition.
+/// The items but those of the bucket sets, tables and measurements, each with
+/// its condition.
 fn conditions() -> Vec<(String, Condition)> {
     let writable = (0x1c..=0x26).chain(0x40..=0x45);
     let mut list = Vec::new();

@@ -1,7 +1,9 @@
 //! Single events, or fields that are none, calls and tables, drawn at random.
 
+mod readings;
 mod tables;
 
+pub use readings::{any_reading, bad_reading, edge_reading, good_reading, no_reading};
 pub use tables::{refused_table, table, waking_table};
 
 use crate::fields::Fields;
@@ -17,7 +19,7 @@ fn no_event(random: &mut Random) -> Fields {
         1 => (1, a, b, word | 1),
         2 => random.pick(&[(2, a | 1, 0, 0), (2, 0, b | 1, 0), (2, 0, 0, word | 1)]),
         3 => (3, a, b, word | 1),
-        _ => (a | 4, b, 0, 0),
+        _ => return no_reading(random, a % 10),
     };
     Fields { kind, a, b, word }
 }
@@ -54,7 +56,10 @@ fn stray_event(random: &mut Random) -> Fields {
         4 => write(read_only, value),
         5 => write(above_largest, 0x80 | value),
         6 => write(0x26, value & 0x01),
-        _ => measurement(random.pick(&[0, 9, 0x10 | value]), value as i8),
+        _ => {
+            let no_input = random.pick(&[0, 9, 0x10 | value]);
+            any_reading(random, no_input).into()
+        }
     }
 }
 
@@ -62,20 +67,18 @@ fn write(address: u8, value: u8) -> Fields {
     Event::Write { address, value }.into()
 }
 
-fn measurement(input: u8, offset: i8) -> Fields {
-    Event::Measurement { input, offset }.into()
-}
-
 /// Random bytes in all fields, most often of a kind that there is.
 pub fn any_fields(random: &mut Random) -> Fields {
     let (byte, word) = (random.byte(), random.word() as i32);
     let near_the_limit = SAMPLE_LIMIT - 2 + random.below(5) as i32;
+    let near_16_bits = 32_766 + random.below(4) as i32;
+    let near = random.pick(&[near_the_limit, near_16_bits]);
     let address = any_address(random);
     Fields {
-        kind: random.pick(&[0, 0, 0, 1, 1, 2, 2, 3, 3, byte]),
+        kind: random.pick(&[0, 0, 0, 1, 1, 2, 2, 3, 3, 4, 4, byte]),
         a: random.pick(&[0, byte & 0x0f, byte, address]),
         b: random.pick(&[0, 1, byte]),
-        word: random.pick(&[0, 0, 0, 0, near_the_limit, -near_the_limit, word]),
+        word: random.pick(&[0, 0, 0, 0, near, -near, word]),
     }
 }
 

@@ -116,6 +116,7 @@ impl<'a, D: Device> List<'a, D> {
         }
         self.coverage.note(&Moment {
             before: &self.pair.model_before,
+            fields: sent.fields(),
             event: sent.event(),
             call: sent.call(),
             table: sent.table(),

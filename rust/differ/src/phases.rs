@@ -31,11 +31,11 @@ fn selected_or_any<D: Device>(list: &mut List<D>) -> u8 {
     }
 }
 
-/// Clears the input's frequency alarm.
+/// Clears the input's frequency alarm, by a measurement of either kind.
 fn measure_well<D: Device>(list: &mut List<D>, input: u8) -> Step {
-    let limit = u32::from(list.unit().settings.qualification);
-    let offset = list.random.below(limit + 1) as i8;
-    list.measure(input, offset)
+    let settings = list.unit().settings;
+    let reading = draw::good_reading(&mut list.random, input, &settings);
+    list.event(reading)
 }
 
 /// Makes the input one that will be available after a soak.
@@ -115,8 +115,9 @@ pub fn go_to_holdover<D: Device>(list: &mut List<D>) -> Step {
 pub fn ticks_in_holdover<D: Device>(list: &mut List<D>, count: u32) -> Step {
     for _ in 0..count {
         if list.random.one_in(4_000) {
-            let (input, offset) = (any_input(&mut list.random), list.random.byte() as i8);
-            list.measure(input, offset)?;
+            let input = any_input(&mut list.random);
+            let reading = draw::any_reading(&mut list.random, input);
+            list.event(reading)?;
         }
         let irregular = list.random.byte() & list.random.byte();
         let lock = list.random.one_in(2);
@@ -141,13 +142,13 @@ pub fn any_events<D: Device>(list: &mut List<D>) -> Step {
         let address = draw::any_address(random);
         let value = draw::any_value(random, address);
         let refused = draw::out_of_range_tick(random);
-        let (input, offset) = (random.below(10) as u8, random.byte() as i8);
+        let input = random.below(10) as u8;
+        let reading = draw::any_reading(random, input);
         let lock = !random.one_in(8);
         match random.below(40) {
             0 => list.event(Event::Hit)?,
             1..=4 => list.write(address, value)?,
-            5..=8 => list.measure(input, offset / 4)?,
-            9..=10 => list.measure(input, offset)?,
+            5..=10 => list.event(reading)?,
             11 => list.event(refused)?,
             12..=14 => list.tick(value, lock)?,
             _ => list.tick(0, lock)?,
@@ -222,11 +223,9 @@ pub fn drop_the_selected<D: Device>(list: &mut List<D>) -> Step {
             list.write(0x42, mask & !bit(input))?;
         }
         2 => {
-            let reject = list.unit().settings.reject as i8;
-            let beyond = list
-                .random
-                .pick(&[reject.wrapping_add(1), -reject - 1, -128]);
-            list.measure(input, beyond)?;
+            let settings = list.unit().settings;
+            let reading = draw::bad_reading(&mut list.random, input, &settings);
+            list.event(reading)?;
         }
         _ => list.write(0x1b + input, 0x0f)?,
     }
@@ -290,7 +289,8 @@ pub fn lock_alarm<D: Device>(list: &mut List<D>) -> Step {
     list.ticks(count, true)
 }
 
-/// Other limits, and measurements next to them.
+/// Other limits, and measurements next to them, with fields among them that are
+/// none.
 pub fn frequency_limits<D: Device>(list: &mut List<D>) -> Step {
     if list.random.one_in(2) {
         let qualification = list.random.pick(&[0, 1, 24, 25, 26, 60, 120, 121]);
@@ -304,15 +304,15 @@ pub fn frequency_limits<D: Device>(list: &mut List<D>) -> Step {
     }
     for _ in 0..list.random.between(1, 12) {
         let settings = list.unit().settings;
-        let limit = list.random.pick(&[settings.reject, settings.qualification]);
-        let offset = (limit as i8).wrapping_add(list.random.pick(&[-1, 0, 1]));
-        let offset = list
-            .random
-            .pick(&[offset, offset, offset.wrapping_neg(), -128, 127]);
         let any = any_input(&mut list.random);
         let selected = selected_or_any(list);
         let input = list.random.pick(&[any, selected]);
-        list.measure(input, offset)?;
+        let reading = draw::edge_reading(&mut list.random, input, &settings);
+        list.event(reading)?;
+        if list.random.one_in(6) {
+            let fields = draw::no_reading(&mut list.random, input);
+            list.send(fields)?;
+        }
         let count = list.random.pick(&[0, 0, 1, 80]);
         list.ticks(count, true)?;
     }

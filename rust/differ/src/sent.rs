@@ -17,12 +17,16 @@ pub enum Sent {
 }
 
 impl Sent {
-    /// None for a call and a table, and for fields that are no event.
-    pub fn event(&self) -> Option<Event> {
-        match self {
-            Sent::Fields(fields) => fields.event(),
+    pub fn fields(&self) -> Option<Fields> {
+        match *self {
+            Sent::Fields(fields) => Some(fields),
             Sent::Call(_) | Sent::Load(_) => None,
         }
+    }
+
+    /// None for a call and a table, and for fields that are no event.
+    pub fn event(&self) -> Option<Event> {
+        self.fields()?.event()
     }
 
     pub fn call(&self) -> Option<Call> {

@@ -136,7 +136,7 @@ fn refused() -> Vec<(u8, Sent)> {
 }
 
 /// Events and calls that a fresh unit refuses, with the number.
-const REFUSED: [(u8, Sent); 25] = [
+const REFUSED: [(u8, Sent); 33] = [
     (1, event(3, 0x00, 1, 0)),
     (1, event(3, 0x4f, 0, 0)),
     (2, event(3, 0x48, 0, 0)),
@@ -146,11 +146,19 @@ const REFUSED: [(u8, Sent); 25] = [
     (5, event(2, 0, 0, 0)),
     (6, event(1, 0, 0, 0)),
     (6, event(1, 9, 1, 0)),
+    (6, event(4, 0, 0, 0)),
+    (6, event(4, 9, 0, -32_768)),
     (7, event(0, 0xff, 1, 125_000_001)),
     (7, event(0, 0, 0, -125_000_001)),
     (8, event(3, 0x26, 1, 0)),
     (8, event(3, 0x26, 2, 0)),
-    (12, event(4, 0, 0, 0)),
+    (12, event(5, 1, 0, 0)),
+    (12, event(255, 0, 0, 0)),
+    (12, event(4, 1, 1, 0)),
+    (12, event(4, 9, 255, 0)),
+    (12, event(4, 1, 0, 32_768)),
+    (12, event(4, 8, 0, -32_769)),
+    (12, event(4, 9, 0, i32::MIN)),
     (12, event(0, 0, 2, 0)),
     (12, event(3, 0x40, 1, 1)),
     (14, set(4, 8, 6, 4, 1)),

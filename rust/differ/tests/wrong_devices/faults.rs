@@ -1,6 +1,7 @@
 //! The faults: each alters the answer to an event, a call, a table or a read,
 //! or the state that is left. Those of the history are in `histories`, those of
-//! the bucket sets in `buckets`, those of the tables in `tables`.
+//! the bucket sets in `buckets`, those of the tables in `tables`, those of the
+//! measurements in `readings`.
 
 use differ::fields::Fields;
 use model::{wait_limit, Call, Event, State, Unit, Wait};

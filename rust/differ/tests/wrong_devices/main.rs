@@ -4,6 +4,7 @@
 mod buckets;
 mod faults;
 mod histories;
+mod readings;
 mod tables;
 
 use differ::coverage::Coverage;
@@ -71,6 +72,7 @@ fn all_faults() -> impl Iterator<Item = &'static Fault> {
         .chain(histories::FAULTS)
         .chain(buckets::FAULTS)
         .chain(tables::FAULTS)
+        .chain(readings::FAULTS)
 }
 
 fn fault(name: &str) -> &'static Fault {
