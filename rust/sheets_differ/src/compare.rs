@@ -41,6 +41,7 @@ impl<R: Runner> Against<'_, R> {
         let exact = match &given.records {
             Some(records) => {
                 coverage.note_records(records);
+                coverage.note_events(sheet, records);
                 BYTES_PER_RECORD * records.len()
             }
             // A refused sheet has no records: any length will do for it.

@@ -1,5 +1,6 @@
 //! What the sheets have reached: how often each number, each kind of damage,
-//! each refusal of an event, each length of an output and each text came.
+//! each kind and each refusal of an event, each length of an output and each
+//! text came.
 
 mod pages;
 
@@ -8,13 +9,22 @@ pub use pages::Pages;
 use crate::damage::Damage;
 use crate::rack::Feed;
 use crate::room::Room;
+use crate::sheet;
 use differ::report::never_reached;
-use model::{Record, LONGEST_SHEET};
+use model::{Record, BYTES_PER_EVENT, LONGEST_SHEET};
 
 /// The numbers that a sheet can be answered with.
 const NUMBERS: [u8; 6] = [0, 9, 10, 11, 12, 13];
 /// The most records a sheet can give: 256 settings and 8,127 events.
 const MOST_RECORDS: usize = 8_383;
+/// The kinds of events: 0 to 4.
+const KINDS: usize = 5;
+/// Which measurements a sheet has, by their kinds.
+const MEASUREMENTS: [(&str, fn(&[bool; KINDS]) -> bool); 3] = [
+    ("the old kind alone", |has| has[1] && !has[4]),
+    ("the finer kind alone", |has| !has[1] && has[4]),
+    ("both kinds", |has| has[1] && has[4]),
+];
 /// The lengths of sheets that the rack program must have seen.
 const RACK_LENGTHS: [usize; 6] = [0, 1, LONGEST_SHEET, 65_536, 70_000, 200_000];
 
@@ -33,6 +43,10 @@ pub struct Coverage {
     damages: Vec<(String, Tally)>,
     /// The refusals in the records.
     refusals: Tally,
+    /// The events of each kind, accepted and refused.
+    kinds: [[u64; 2]; KINDS],
+    /// The sheets with such measurements.
+    measured: [u64; MEASUREMENTS.len()],
     runs: [u64; 4],
     pub pages: Pages,
     feeds: [u64; 2],
@@ -51,6 +65,8 @@ impl Coverage {
             checks: [0; 14],
             damages: damages.collect(),
             refusals: [0; 14],
+            kinds: [[0; 2]; KINDS],
+            measured: [0; MEASUREMENTS.len()],
             runs: [0; 4],
             pages: Pages::default(),
             feeds: [0; 2],
@@ -76,6 +92,21 @@ impl Coverage {
         self.fullest += u64::from(records.len() == MOST_RECORDS);
         for record in records {
             self.refusals[usize::from(record[0])] += 1;
+        }
+    }
+
+    /// The events of a sheet that gives these records.
+    pub fn note_events(&mut self, sheet: &[u8], records: &[Record]) {
+        let settings = usize::from(u16::from_le_bytes([sheet[0], sheet[1]]));
+        let events = sheet[sheet::length(settings, 0)..].chunks_exact(BYTES_PER_EVENT);
+        let mut has = [false; KINDS];
+        for (event, record) in events.zip(&records[settings..]) {
+            let kind = usize::from(event[0]);
+            has[kind] = true;
+            self.kinds[kind][usize::from(record[0] > 0)] += 1;
+        }
+        for (count, (_, holds)) in self.measured.iter_mut().zip(MEASUREMENTS) {
+            *count += u64::from(holds(&has));
         }
     }
 
@@ -121,6 +152,16 @@ impl Coverage {
         list.extend(damages);
         let refusals = (0..=8).map(|n| (format!("records with {}", n), of(&self.refusals, n)));
         list.extend(refusals);
+        for (kind, counts) in self.kinds.iter().enumerate() {
+            let answers = ["accepted", "refused"].iter().zip(counts);
+            list.extend(
+                answers.map(|(answer, &n)| (format!("events of kind {} {}", kind, answer), n)),
+            );
+        }
+        let measured = MEASUREMENTS.iter().zip(self.measured);
+        list.extend(
+            measured.map(|((name, _), n)| (format!("sheets with measurements of {}", name), n)),
+        );
         let rooms = Room::ALL.map(|room| {
             let name = format!("runs with an output {}", room.name());
             (name, self.runs[room as usize])

@@ -83,6 +83,15 @@ pub fn damages() -> Vec<Damage> {
         |_| Some(12),
     ));
     list.extend(family(
+        WORDS,
+        |word| format!("finer measurement with the word {}", word),
+        |random, sheet, word| {
+            let place = put_event(random, sheet, 4) + 4;
+            sheet.bytes[place..place + 4].copy_from_slice(&word.to_le_bytes());
+        },
+        |word| Some(if i16::try_from(word).is_ok() { 0 } else { 12 }),
+    ));
+    list.extend(family(
         SINGLE_DAMAGES.iter().copied(),
         |(name, _, _)| name.to_string(),
         |random, sheet, (_, _, work)| work(random, sheet),
@@ -145,6 +154,18 @@ const LARGE: [(usize, usize); 6] = [
     (0, 24_999),
 ];
 
+/// Words of a finer measurement: the least and the largest, and some beyond.
+const WORDS: [i32; 8] = [
+    32_767,
+    -32_768,
+    32_768,
+    -32_769,
+    65_535,
+    -65_536,
+    i32::MAX,
+    i32::MIN,
+];
+
 /// A byte of an event that makes it no event.
 #[derive(Clone, Copy)]
 struct Field {
@@ -166,7 +187,7 @@ const fn field(name: &'static str, kind: Option<u8>, byte: usize, least: u8) -> 
 }
 
 const FIELDS: &[Field] = &[
-    field("kind over 3", None, 0, 4),
+    field("kind over 4", None, 0, 5),
     field("lock over 1", Some(0), 2, 2),
     field("a of a Hit not 0", Some(2), 1, 1),
     field("b of a Hit not 0", Some(2), 2, 1),
@@ -180,19 +201,28 @@ const FIELDS: &[Field] = &[
     field("word of a Hit under 0", Some(2), 7, 128),
     field("word of a write over 65,535", Some(3), 6, 1),
     field("word of a write over 0", Some(3), 4, 1),
+    field("kind of a finer measurement over 4", Some(4), 0, 5),
+    field("b of a finer measurement not 0", Some(4), 2, 1),
+    field("byte 3 of a finer measurement not 0", Some(4), 3, 1),
 ];
 
 impl Field {
     fn spoil(&self, random: &mut Random, sheet: &mut Sheet) {
-        let index = sheet.any_event(random);
-        if let Some(kind) = self.kind {
-            sheet.events[index] = event_of_kind(random, kind);
-            *sheet = Sheet::of(sheet.settings.clone(), sheet.events.clone());
-        }
+        let place = match self.kind {
+            Some(kind) => put_event(random, sheet, kind),
+            None => sheet.event_place(sheet.any_event(random)),
+        };
         let any = random.between(u32::from(self.least), 255) as u8;
-        let place = sheet.event_place(index) + self.byte;
-        sheet.bytes[place] = random.pick(&[self.least, any, 255]);
+        sheet.bytes[place + self.byte] = random.pick(&[self.least, any, 255]);
     }
+}
+
+/// Puts an event of this kind in the place of any: where it begins.
+fn put_event(random: &mut Random, sheet: &mut Sheet, kind: u8) -> usize {
+    let index = sheet.any_event(random);
+    sheet.events[index] = event_of_kind(random, kind);
+    *sheet = Sheet::of(sheet.settings.clone(), sheet.events.clone());
+    sheet.event_place(index)
 }
 
 fn event_of_kind(random: &mut Random, kind: u8) -> Event {
@@ -205,7 +235,11 @@ fn event_of_kind(random: &mut Random, kind: u8) -> Event {
             offset: value as i8,
         },
         2 => Event::Hit,
-        _ => Event::Write { address, value },
+        3 => Event::Write { address, value },
+        _ => Event::FinerMeasurement {
+            input: value % 10,
+            offset: random.word() as i16,
+        },
     }
 }
 
@@ -256,7 +290,7 @@ const SINGLE_DAMAGES: &[(&str, Option<u8>, SingleWork)] = &[
     ("10 and 12 at once", Some(10), |random, sheet| {
         *sheet = sheet.resized(sheet.settings.len(), sheet.events.len() + 1);
         let place = sheet.event_place(0);
-        sheet.bytes[place] = random.between(4, 255) as u8;
+        sheet.bytes[place] = random.between(5, 255) as u8;
         sheet.bytes.truncate(sheet.bytes.len() - 1);
     }),
     ("11 and 12 at once", Some(11), |random, sheet| {

@@ -73,6 +73,38 @@ fn with_plain_hits(sheet: &[u8]) -> Vec<u8> {
     })
 }
 
+/// The sheet with the bytes of each finer measurement altered before.
+fn with_kind_4(sheet: &[u8], alter: impl Fn(&mut [u8])) -> Vec<u8> {
+    with_events(sheet, |event| {
+        if event[0] == 4 {
+            alter(event);
+        }
+    })
+}
+
+/// The sheet with one word of finer measurements taken as 0.
+fn without_word(sheet: &[u8], word: i32) -> Vec<u8> {
+    with_kind_4(sheet, |event| {
+        if event[4..] == word.to_le_bytes() {
+            event[4..].fill(0);
+        }
+    })
+}
+
+/// The sheet with another word in each finer measurement.
+fn with_words(sheet: &[u8], other: impl Fn(i32) -> i32) -> Vec<u8> {
+    with_kind_4(sheet, |event| {
+        let word = i32::from_le_bytes([event[4], event[5], event[6], event[7]]);
+        event[4..].copy_from_slice(&other(word).to_le_bytes());
+    })
+}
+
+/// Runs the sheet with another offset in each finer measurement.
+fn run_with_offsets(sheet: &[u8], output: &mut [u8], other: fn(i16) -> i16) -> usize {
+    let other = |word| i16::try_from(word).map_or(word, |offset| other(offset).into());
+    run(&with_words(sheet, other), output)
+}
+
 fn with_word_high_byte_first(sheet: &[u8]) -> Vec<u8> {
     with_events(sheet, |event| event[4..].reverse())
 }
@@ -186,6 +218,60 @@ pub static FAULTS: &[Fault] = &[
     in_check("a and b of a Hit not looked at", |sheet, room| {
         check(&with_plain_hits(sheet), room)
     }),
+    in_check("kind 5 let through", |sheet, room| {
+        let clean_ticks = with_events(sheet, |event| {
+            if event[0] == 5 {
+                event.fill(0);
+            }
+        });
+        check(&clean_ticks, room)
+    }),
+    in_check("12 for each finer measurement", |sheet, room| {
+        check(&with_kind_4(sheet, |event| event[0] = 5), room)
+    }),
+    in_check("12 for a finer measurement of no input", |sheet, room| {
+        let other = with_kind_4(sheet, |event| {
+            if !(1..=8).contains(&event[1]) {
+                event[0] = 5;
+            }
+        });
+        check(&other, room)
+    }),
+    in_check("b 1 of a finer measurement let through", |sheet, room| {
+        let other = with_kind_4(sheet, |event| {
+            if event[2] == 1 {
+                event[2] = 0;
+            }
+        });
+        check(&other, room)
+    }),
+    in_check(
+        "byte 3 of a finer measurement let through",
+        |sheet, room| check(&with_kind_4(sheet, |event| event[3] = 0), room),
+    ),
+    in_check("the word 32,768 let through", |sheet, room| {
+        check(&without_word(sheet, 32_768), room)
+    }),
+    in_check("the word -32,769 let through", |sheet, room| {
+        check(&without_word(sheet, -32_769), room)
+    }),
+    in_check("the word's upper half dropped", |sheet, room| {
+        check(&with_words(sheet, |word| i32::from(word as i16)), room)
+    }),
+    in_check("the word 32,767 refused", |sheet, room| {
+        let other = with_words(sheet, |word| match word {
+            32_767 => 32_768,
+            _ => word,
+        });
+        check(&other, room)
+    }),
+    in_check("words below 0 refused", |sheet, room| {
+        let other = with_words(sheet, |word| match word {
+            i32::MIN..=-1 => i32::MIN,
+            _ => word,
+        });
+        check(&other, room)
+    }),
     in_check("a refused event is the sheet's fault", |sheet, room| {
         let faulty = |record: &model::Record| matches!(record[0], 6 | 7);
         match model::records(sheet) {
@@ -263,6 +349,15 @@ pub static FAULTS: &[Fault] = &[
     }),
     in_run("the word high byte first", |sheet, output| {
         run(&with_word_high_byte_first(sheet), output)
+    }),
+    in_run("each finer offset taken as 0", |sheet, output| {
+        run_with_offsets(sheet, output, |_| 0)
+    }),
+    in_run("a finer offset in steps of 0.5 ppm", |sheet, output| {
+        run_with_offsets(sheet, output, |offset| offset / 32 * 32)
+    }),
+    in_run("a finer offset below 0 taken as 0", |sheet, output| {
+        run_with_offsets(sheet, output, |offset| offset.max(0))
     }),
     in_run(
         "an output above 32,767 bytes not filled",
