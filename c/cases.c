@@ -1,10 +1,10 @@
-/* Document 01's cases A to J ("Marked trials") and cases of document 02's #102, #104 and #105, driven by a host in C through the functions of libhost.a. */
+/* Document 01's cases A to J ("Marked trials") and cases of document 02's #102, #104, #105 and #106, driven by a host in C through the functions of libhost.a. */
 #include "controller.h"
 
 #include <stdio.h>
 #include <string.h>
 
-enum { TICK, MEASUREMENT, HIT, WRITE };
+enum { TICK, MEASUREMENT, HIT, WRITE, FINER_MEASUREMENT };
 
 enum { SOAK_TICKS = 79, LOCK_TICKS = 16, BLOCK_TICKS = 128, READY_BLOCKS = 43 };
 
@@ -28,6 +28,12 @@ static int write_register(struct unit *u, uint8_t address, uint8_t value)
 static int measure(struct unit *u, uint8_t input, int8_t offset)
 {
     return unit_event(u, MEASUREMENT, input, (uint8_t)offset, 0);
+}
+
+/* The offset in 1/64 ppm. */
+static int measure_finely(struct unit *u, uint8_t input, int32_t offset)
+{
+    return unit_event(u, FINER_MEASUREMENT, input, 0, offset);
 }
 
 static void ticks(struct unit *u, long n, uint8_t irregular, uint8_t lock, int32_t sample)
@@ -88,14 +94,24 @@ static void activity(void)
     expect("B a fourth: clear", activity_alarm(&u, 1), 0);
 }
 
-/* The frequency alarm of input 1 after a measurement, from fresh, where it is set, or after a measurement of 0 has cleared it. */
-static int alarm_after(int8_t offset, int cleared)
+/* The frequency alarm of input 1 after a measurement of either kind, from fresh, where it is set, or after a measurement of 0 has cleared it. */
+static int alarm_after_event(uint8_t kind, uint8_t b, int32_t word, int cleared)
 {
     struct unit u = unit_fresh();
     if (cleared)
         measure(&u, 1, 0);
-    measure(&u, 1, offset);
+    unit_event(&u, kind, 1, b, word);
     return frequency_alarm(&u, 1);
+}
+
+static int alarm_after(int8_t offset, int cleared)
+{
+    return alarm_after_event(MEASUREMENT, (uint8_t)offset, 0, cleared);
+}
+
+static int alarm_after_finer(int32_t offset, int cleared)
+{
+    return alarm_after_event(FINER_MEASUREMENT, 0, offset, cleared);
 }
 
 static void frequency(void)
@@ -200,7 +216,7 @@ static void kept_value(void)
     expect("#102 input 2 is lost: Holdover", state_byte(&u), 0x10);
 }
 
-/* The refusal of a call or of a table, and that it left every byte as it was, padding too. */
+/* The refusal of an event, of a call or of a table, and that it left every byte as it was, padding too. */
 static void expect_refused(const char *what, const struct unit *u, const unsigned char *before, int got, int want)
 {
     expect(what, got, want);
@@ -306,6 +322,78 @@ static void fresh_values(void)
     expect("#105 16 lock ticks: 0x32, and no write has come", state_byte(&u), 0x32);
 }
 
+/* The fresh limits are 992 and 800 steps of 1/64 ppm. */
+static void finer_readings(void)
+{
+    expect("#106 993 sets", alarm_after_finer(993, 1), 1);
+    expect("#106 -993 sets", alarm_after_finer(-993, 1), 1);
+    expect("#106 992 keeps a set alarm", alarm_after_finer(992, 0), 1);
+    expect("#106 992 keeps a clear one", alarm_after_finer(992, 1), 0);
+    expect("#106 -801 keeps a set alarm", alarm_after_finer(-801, 0), 1);
+    expect("#106 801 keeps a clear one", alarm_after_finer(801, 1), 0);
+    expect("#106 800 clears", alarm_after_finer(800, 0), 0);
+    expect("#106 -800 clears", alarm_after_finer(-800, 0), 0);
+    expect("#106 -32768 sets", alarm_after_finer(-32768, 1), 1);
+    expect("#106 32767 sets", alarm_after_finer(32767, 1), 1);
+    struct unit u = unit_fresh();
+    write_register(&u, 0x44, 127);
+    measure_finely(&u, 1, 0);
+    measure_finely(&u, 1, 4064);
+    expect("#106 reject limit 127: 4064 keeps a clear alarm", frequency_alarm(&u, 1), 0);
+    measure_finely(&u, 1, -4065);
+    expect("#106 reject limit 127: -4065 sets", frequency_alarm(&u, 1), 1);
+}
+
+/* How often a byte of the old kind does otherwise than 32 times it, from a set alarm and from a clear one. */
+static int unlike_old(void)
+{
+    int n = 0;
+    for (int byte = -128; byte <= 127; byte++)
+        for (int cleared = 0; cleared <= 1; cleared++)
+            n += alarm_after((int8_t)byte, cleared) != alarm_after_finer(32 * byte, cleared);
+    return n;
+}
+
+static void refused_readings(void)
+{
+    static const struct { const char *what; uint8_t kind, a, b; int32_t word; int refusal; } wrong[] = {
+        {"#106 b 1 gives 12", FINER_MEASUREMENT, 1, 1, 0, 12},
+        {"#106 the word 32768 gives 12", FINER_MEASUREMENT, 1, 0, 32768, 12},
+        {"#106 the word -32769 gives 12", FINER_MEASUREMENT, 1, 0, -32769, 12},
+        {"#106 kind 5 gives 12", FINER_MEASUREMENT + 1, 1, 0, 0, 12},
+        {"#106 input 0 gives 6", FINER_MEASUREMENT, 0, 0, 993, 6},
+        {"#106 input 9 gives 6", FINER_MEASUREMENT, 9, 0, 993, 6},
+        {"#106 input 9 with b 1 gives 12", FINER_MEASUREMENT, 9, 1, 993, 12},
+    };
+    struct unit u = tracking(1);
+    unsigned char before[sizeof u];
+    memcpy(before, &u, sizeof u);
+    for (size_t i = 0; i < sizeof wrong / sizeof *wrong; i++) {
+        int refusal = unit_event(&u, wrong[i].kind, wrong[i].a, wrong[i].b, wrong[i].word);
+        expect_refused(wrong[i].what, &u, before, refusal, wrong[i].refusal);
+    }
+}
+
+/* A reference that drifts out by a step, and back. */
+static void drift(void)
+{
+    struct unit u = tracking(1);
+    expect("#106 992 on the selected input is accepted", measure_finely(&u, 1, 992), 0);
+    clean_ticks(&u, 1);
+    expect("#106 it stays selected", selected(&u), 1);
+    expect("#106 a step more is accepted", measure_finely(&u, 1, 993), 0);
+    clean_ticks(&u, 1);
+    expect("#106 it is lost with the next tick", selected(&u), 0);
+    measure_finely(&u, 1, 801);
+    clean_ticks(&u, SOAK_TICKS);
+    expect("#106 801 does not bring it back", selected(&u), 0);
+    measure_finely(&u, 1, 800);
+    clean_ticks(&u, SOAK_TICKS - 1);
+    expect("#106 800 and 78 clean ticks: not selected", selected(&u), 0);
+    clean_ticks(&u, 1);
+    expect("#106 the 79th: selected", selected(&u), 1);
+}
+
 int main(void)
 {
     activity();
@@ -321,6 +409,10 @@ int main(void)
     bucket_sets();
     refused_tables();
     fresh_values();
-    printf("cases A to J, #102, #104 and #105: %s\n", failures ? "FAILED" : "passed");
+    finer_readings();
+    expect("#106 each byte of the old kind is as 32 times it", unlike_old(), 0);
+    refused_readings();
+    drift();
+    printf("cases A to J, #102, #104, #105 and #106: %s\n", failures ? "FAILED" : "passed");
     return failures != 0;
 }

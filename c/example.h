@@ -32,14 +32,22 @@ static void each_damaged(void (*take)(const char *what, const uint8_t *sheet, si
     static uint8_t large[65536];
     uint8_t lengthened[sizeof example + 1] = {0}, changed[sizeof example];
     memcpy(lengthened, example, sizeof example);
-    memcpy(changed, example, sizeof example);
-    changed[14] = 4;
 
     take("65,536 bytes: 9", large, sizeof large, 9);
     take("a byte short: 10", example, sizeof example - 1, 10);
     take("no byte: 10", example, 0, 10);
     take("a byte more: 11", lengthened, sizeof lengthened, 11);
-    take("kind 4: 12", changed, sizeof changed, 12);
+
+    /* The Hit, from byte 14 on: of a kind that there is not, or a finer measurement with a field at fault. */
+    memcpy(changed, example, sizeof example);
+    changed[14] = 5;
+    take("kind 5: 12", changed, sizeof changed, 12);
+    changed[14] = 4;
+    changed[16] = 1;
+    take("kind 4 with b 1: 12", changed, sizeof changed, 12);
+    changed[16] = 0;
+    changed[19] = 0x80;
+    take("kind 4 with the word 32768: 12", changed, sizeof changed, 12);
 }
 
 #endif
