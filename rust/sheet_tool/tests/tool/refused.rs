@@ -7,7 +7,10 @@ use std::path::Path;
 
 /// A name for each sheet, its bytes, and the number it is refused with.
 fn sheets() -> Vec<(&'static str, Vec<u8>, u8)> {
-    let event = |kind, a, b, unused, word| vec![0, 0, 1, 0, kind, a, b, unused, word, 0, 0, 0];
+    let event = |kind, a, b, unused, word: i32| {
+        let fields = [0, 0, 1, 0, kind, a, b, unused];
+        [&fields[..], &word.to_le_bytes()].concat()
+    };
     vec![
         ("too-long", vec![0; 65_536], 9),
         ("far-too-long", vec![0; 1_000_000], 9),
@@ -15,10 +18,16 @@ fn sheets() -> Vec<(&'static str, Vec<u8>, u8)> {
         ("nothing", vec![], 10),
         ("half-an-event", vec![0, 0, 1, 0, 0, 0, 0, 0], 10),
         ("one-byte-more", vec![0, 0, 0, 0, 0], 11),
-        ("kind", event(4, 0, 0, 0, 0), 12),
+        ("kind", event(5, 0, 0, 0, 0), 12),
         ("lock", event(0, 0, 2, 0, 0), 12),
         ("unused", event(2, 0, 0, 1, 0), 12),
         ("word", event(3, 0, 0, 0, 1), 12),
+        ("finer-b", event(4, 1, 1, 0, 0), 12),
+        ("finer-unused", event(4, 1, 0, 1, 0), 12),
+        ("finer-over", event(4, 1, 0, 0, 32_768), 12),
+        ("finer-under", event(4, 1, 0, 0, -32_769), 12),
+        ("finer-far-over", event(4, 1, 0, 0, 65_536), 12),
+        ("finer-least-word", event(4, 1, 0, 0, i32::MIN), 12),
     ]
 }
 
@@ -27,7 +36,9 @@ fn meaning(number: u8) -> &'static str {
         9 => "sheet over 65,535 bytes, or a settings count over 256",
         10 => "sheet ends early",
         11 => "bytes after the events",
-        12 => "kind over 3, lock over 1, or unused field not 0",
+        12 => {
+            "kind over 4, lock over 1, offset word outside -32,768 to 32,767, or unused field not 0"
+        }
         _ => unreachable!(),
     }
 }

@@ -1,7 +1,7 @@
-//! What the bindings say of document 01's numbers is what the model reads in it,
-//! each for itself.
+//! What the bindings say of the documents' numbers is what the model reads in
+//! them, each for itself.
 
-use controller::{HIT, MEASUREMENT, STATES, TICK, WRITE};
+use controller::{FINER_MEASUREMENT, HIT, MEASUREMENT, STATES, TICK, WRITE};
 use model::{Event, State};
 
 #[test]
@@ -27,6 +27,15 @@ fn the_kinds_of_events() {
             Some(Event::Write { .. })
         ]
     ));
+}
+
+/// The offset is in the word, and b is 0.
+#[test]
+fn the_kind_of_a_finer_measurement() {
+    let event = |b, word| Event::from_fields(FINER_MEASUREMENT, 1, b, word);
+    assert!(event(0, -32_768).is_some() && event(0, 32_767).is_some());
+    assert!(event(0, -32_769).is_none() && event(0, 32_768).is_none());
+    assert!(event(1, 0).is_none());
 }
 
 #[test]
