@@ -1,9 +1,11 @@
-//! One event of a run sheet, as the fields that document 01 gives it.
+//! One event of a run sheet, as the fields that documents 01 and 02 give it.
 
+use controller::FINER_MEASUREMENT;
 use sheets::BYTES_PER_EVENT;
 
 /// What `a`, `b` and `word` hold is the kind's to say: a tick's mask, lock flag
-/// and sample; a measurement's input and offset; a write's address and value.
+/// and sample; a measurement's input and offset, a finer one's in the word; a
+/// write's address and value.
 #[derive(Clone, Copy, Debug, PartialEq, Eq)]
 pub struct Event {
     pub kind: u8,
@@ -17,6 +19,14 @@ impl Event {
     pub fn short(kind: u8, a: u8, b: u8) -> Event {
         let word = 0;
         Event { kind, a, b, word }
+    }
+
+    /// A measurement with its offset in steps of 1/64 ppm.
+    pub fn finer_measurement(input: u8, offset: i16) -> Event {
+        Event {
+            word: i32::from(offset),
+            ..Event::short(FINER_MEASUREMENT, input, 0)
+        }
     }
 
     pub fn to_bytes(self) -> [u8; BYTES_PER_EVENT] {

@@ -10,6 +10,7 @@ pub mod event;
 pub mod fresh;
 pub mod help;
 pub mod make;
+pub mod number;
 pub mod output;
 pub mod pages;
 pub mod picture;

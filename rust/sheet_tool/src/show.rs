@@ -2,9 +2,10 @@
 //! same sheet.
 
 use crate::event::Event;
+use crate::number::ppm;
 use crate::registers;
 use crate::sheet::{Setting, Sheet};
-use controller::{HIT, MEASUREMENT, TICK};
+use controller::{FINER_MEASUREMENT, HIT, MEASUREMENT, TICK};
 use shared::runs::runs;
 
 pub fn show(sheet: &Sheet) -> String {
@@ -33,6 +34,7 @@ fn statement(event: &Event) -> String {
     match kind {
         TICK => format!("tick {:#04x} {} {}", a, b, word),
         MEASUREMENT => format!("measurement {} {}", a, b as i8),
+        FINER_MEASUREMENT => format!("measurement {} {} ppm", a, ppm(i64::from(word))),
         HIT => "hit".to_string(),
         _ => assignment("write", a, b),
     }

@@ -1,5 +1,6 @@
 //! The fields of a statement: what each is called, and what fits in it.
 
+use crate::number::{ppm, steps, whole};
 use crate::registers;
 
 /// How deep repeats may stand in each other.
@@ -11,8 +12,18 @@ pub struct Field {
     pub name: &'static str,
     least: i64,
     most: i64,
-    /// Whether a register's name may stand for the number.
-    register: bool,
+    form: Form,
+}
+
+/// What may stand in a field.
+enum Form {
+    Number,
+    /// A number or a register's name.
+    Address,
+    /// A whole number, where one in ppm may have been meant.
+    Offset,
+    /// A decimal number of ppm. It is read as steps of 1/64 ppm.
+    Ppm,
 }
 
 const fn field(name: &'static str, least: i64, most: i64) -> Field {
@@ -20,12 +31,19 @@ const fn field(name: &'static str, least: i64, most: i64) -> Field {
         name,
         least,
         most,
-        register: false,
+        form: Form::Number,
+    }
+}
+
+const fn offset(form: Form, least: i64, most: i64) -> Field {
+    Field {
+        form,
+        ..field("OFFSET", least, most)
     }
 }
 
 pub const ADDRESS: Field = Field {
-    register: true,
+    form: Form::Address,
     ..field("ADDRESS", 0, 255)
 };
 pub const VALUE: Field = field("VALUE", 0, 255);
@@ -38,64 +56,72 @@ pub const SIZE: Field = field("SIZE", 0, 255);
 pub const SET_LEVEL: Field = field("SET_LEVEL", 0, 255);
 pub const CLEAR_LEVEL: Field = field("CLEAR_LEVEL", 0, 255);
 pub const DECAY: Field = field("DECAY", 0, 255);
-pub const OFFSET: Field = field("OFFSET", -128, 127);
+/// In 0.5 ppm.
+pub const OFFSET: Field = offset(Form::Offset, i8::MIN as i64, i8::MAX as i64);
+/// In steps of 1/64 ppm.
+pub const OFFSET_IN_STEPS: Field = offset(Form::Offset, i16::MIN as i64, i16::MAX as i64);
+pub const OFFSET_IN_PPM: Field = offset(Form::Ppm, i16::MIN as i64, i16::MAX as i64);
 pub const COUNT: Field = field("COUNT", 1, MOST_REPEATS);
+
+/// Said of an offset that may have been meant in ppm.
+const IN_PPM: &str = "; in ppm it is written as in measurement 3 0.484375 ppm";
 
 impl Field {
     /// The number that a word is in this field, or why it is none.
     pub fn read(&self, word: &str) -> Result<i64, String> {
-        if self.register {
-            if let Some(address) = registers::address(word) {
-                return Ok(i64::from(address));
-            }
+        let (below, above) = self.next_to(word).ok_or_else(|| self.no_number(word))?;
+        if below < self.least || above > self.most {
+            return Err(self.out_of_range(word));
         }
-        let number = number(word).ok_or_else(|| self.no_number(word))?;
-        if (self.least..=self.most).contains(&number) {
-            return Ok(number);
+        if below < above {
+            return Err(between_steps(word, below, above));
         }
-        Err(format!(
-            "{} is {} to {}, not {}",
-            self.name,
-            self.least,
-            self.most,
-            shortened(word)
-        ))
+        Ok(below)
+    }
+
+    /// The field's numbers at or below a word's and at or above it.
+    fn next_to(&self, word: &str) -> Option<(i64, i64)> {
+        let number = match self.form {
+            Form::Ppm => return steps(word),
+            Form::Address => registers::address(word).map(i64::from),
+            Form::Number | Form::Offset => None,
+        };
+        let number = number.or_else(|| whole(word))?;
+        Some((number, number))
     }
 
     fn no_number(&self, word: &str) -> String {
-        let register = if self.register {
-            " or a register's name"
-        } else {
-            ""
+        let (what, hint) = match self.form {
+            Form::Number => ("a number", ""),
+            Form::Address => ("a number or a register's name", ""),
+            Form::Offset => ("a whole number", IN_PPM),
+            Form::Ppm => ("a decimal number of ppm, such as -12.5", ""),
         };
         format!(
-            "{} is a number{}, not \"{}\"",
+            "{} is {}, not \"{}\"{}",
             self.name,
-            register,
-            shortened(word)
+            what,
+            shortened(word),
+            hint
         )
+    }
+
+    fn out_of_range(&self, word: &str) -> String {
+        let bounds = match self.form {
+            Form::Ppm => format!("{} to {} ppm", ppm(self.least), ppm(self.most)),
+            _ => format!("{} to {}", self.least, self.most),
+        };
+        format!("{} is {}, not {}", self.name, bounds, shortened(word))
     }
 }
 
-/// A number in decimal or hexadecimal, below 0 with a minus in front; None if
-/// the word is none. One that is too large for every field stops at a bound.
-fn number(word: &str) -> Option<i64> {
-    let (sign, digits) = match word.strip_prefix('-') {
-        Some(digits) => (-1, digits),
-        None => (1, word),
-    };
-    let (base, digits) = match digits.strip_prefix("0x") {
-        Some(digits) => (16, digits),
-        None => (10, digits),
-    };
-    if digits.is_empty() {
-        return None;
-    }
-    digits.chars().try_fold(0_i64, |number, digit| {
-        let digit = sign * i64::from(digit.to_digit(base)?);
-        let higher = number.saturating_mul(i64::from(base));
-        Some(higher.saturating_add(digit))
-    })
+fn between_steps(word: &str, below: i64, above: i64) -> String {
+    format!(
+        "\"{}\" ppm is no whole number of steps of 1/64 ppm; {} and {} are",
+        shortened(word),
+        ppm(below),
+        ppm(above)
+    )
 }
 
 /// A word of the text as a message can show it: without control characters,

@@ -1,8 +1,8 @@
 //! One line of the text: a statement, or nothing.
 
 use super::field::{
-    shortened, Field, ADDRESS, CLEAR_LEVEL, COUNT, DECAY, INPUT, LOCK, MASK, OFFSET, SAMPLE, SET,
-    SET_LEVEL, SIZE, VALUE,
+    shortened, Field, ADDRESS, CLEAR_LEVEL, COUNT, DECAY, INPUT, LOCK, MASK, OFFSET, OFFSET_IN_PPM,
+    OFFSET_IN_STEPS, SAMPLE, SET, SET_LEVEL, SIZE, VALUE,
 };
 use crate::event::Event;
 use crate::fresh::TABLE;
@@ -98,10 +98,7 @@ fn repeated(count: usize, word: &str, rest: &[&str]) -> Result<Statement, String
                 ..Event::short(TICK, mask as u8, lock as u8)
             }
         }
-        "measurement" => {
-            let [input, offset] = fields(word, [INPUT, OFFSET], rest)?;
-            Event::short(MEASUREMENT, input as u8, offset as u8)
-        }
+        "measurement" => measurement(word, rest)?,
         "hit" => {
             let [] = fields(word, [], rest)?;
             Event::short(HIT, 0, 0)
@@ -117,6 +114,29 @@ fn repeated(count: usize, word: &str, rest: &[&str]) -> Result<Statement, String
     };
     let step = Step::Event(event);
     Ok(Statement::Steps { count, step })
+}
+
+/// A measurement in 0.5 ppm; a finer one, if the offset has a unit behind it.
+fn measurement(word: &str, rest: &[&str]) -> Result<Event, String> {
+    if let Some(unit) = rest.get(2) {
+        let numbers = [&rest[..2], &rest[3..]].concat();
+        let [input, offset] = fields(word, [INPUT, offset_in(unit)?], &numbers)?;
+        return Ok(Event::finer_measurement(input as u8, offset as i16));
+    }
+    let [input, offset] = fields(word, [INPUT, OFFSET], rest)?;
+    Ok(Event::short(MEASUREMENT, input as u8, offset as u8))
+}
+
+/// The field of an offset with this unit.
+fn offset_in(unit: &str) -> Result<Field, String> {
+    match unit {
+        "ppm" => Ok(OFFSET_IN_PPM),
+        "steps" => Ok(OFFSET_IN_STEPS),
+        _ => Err(format!(
+            "after OFFSET may stand ppm or steps, not \"{}\"",
+            shortened(unit)
+        )),
+    }
 }
 
 /// A call of the host.

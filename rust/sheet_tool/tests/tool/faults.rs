@@ -58,11 +58,9 @@ fn missing_and_extra_fields() {
     check("repeat", 1, "repeat needs COUNT");
     check("tick 0 0 0 9", 1, "\"9\" is one field too many for tick");
     check("hit 1", 1, "\"1\" is one field too many for hit");
-    check(
-        "measurement 1 2 3",
-        1,
-        "\"3\" is one field too many for measurement",
-    );
+    for text in ["measurement 1 2 ppm 3", "measurement 1 2 steps 3"] {
+        check(text, 1, "\"3\" is one field too many for measurement");
+    }
     check(
         "setting 1 2 3",
         1,
@@ -115,6 +113,134 @@ fn words_that_are_no_numbers() {
         "ADDRESS is a number or a register's name, not \"kontrol\"",
     );
     check("repeat many", 1, "COUNT is a number, not \"many\"");
+}
+
+/// The bounds of an offset, told as it is written.
+#[test]
+fn offsets_that_do_not_fit() {
+    for steps in ["32768", "-32769", "0x8000", "65536"] {
+        let reason = format!("OFFSET is -32768 to 32767, not {}", steps);
+        check(&format!("measurement 1 {} steps", steps), 1, &reason);
+    }
+    for ppm in [
+        "512",
+        "-512.015625",
+        "511.984376",
+        "511.99",
+        "-512.000001",
+        "512.0000000000000000001",
+        "-1024",
+    ] {
+        let reason = format!("OFFSET is -512 to 511.984375 ppm, not {}", ppm);
+        check(&format!("measurement 1 {} ppm", ppm), 1, &reason);
+    }
+    let long = "9".repeat(100_000);
+    let reason = format!(
+        "OFFSET is -512 to 511.984375 ppm, not {}...",
+        "9".repeat(40)
+    );
+    check(&format!("measurement 1 {} ppm", long), 1, &reason);
+    check(&format!("measurement 1 {0}.{0} ppm", long), 1, &reason);
+}
+
+/// The exact offsets on both sides are told, the lower one first.
+#[test]
+fn offsets_between_two_steps() {
+    for (ppm, neighbours) in [
+        ("0.48", "0.46875 and 0.484375"),
+        ("-0.48", "-0.484375 and -0.46875"),
+        ("0.001", "0 and 0.015625"),
+        ("-0.001", "-0.015625 and 0"),
+        ("12.51", "12.5 and 12.515625"),
+        ("99.99", "99.984375 and 100"),
+        ("511.98", "511.96875 and 511.984375"),
+        ("-511.99", "-512 and -511.984375"),
+        ("0.4843751", "0.484375 and 0.5"),
+        ("0.4843749", "0.46875 and 0.484375"),
+        ("-007.0000001", "-7.015625 and -7"),
+    ] {
+        check(
+            &format!("measurement 1 {} ppm", ppm),
+            1,
+            &format!(
+                "\"{}\" ppm is no whole number of steps of 1/64 ppm; {} are",
+                ppm, neighbours
+            ),
+        );
+    }
+    let zeros = "0".repeat(100_000);
+    check(
+        &format!("\nmeasurement 1 0.5{}1 ppm", zeros),
+        2,
+        &format!(
+            "\"0.5{}...\" ppm is no whole number of steps of 1/64 ppm; 0.5 and 0.515625 are",
+            &zeros[..37]
+        ),
+    );
+}
+
+/// The unit of an offset is told before the offset, which it decides on.
+#[test]
+fn units_that_there_are_not() {
+    for unit in ["3", "PPM", "Ppm", "step", "ppb", "%"] {
+        let reason = format!("after OFFSET may stand ppm or steps, not \"{}\"", unit);
+        for offset in ["1", "0.5", "many", "99999"] {
+            check(&format!("measurement 1 {} {}", offset, unit), 1, &reason);
+        }
+    }
+    check(
+        "2 x measurement 1 1 p\u{1b}pm",
+        1,
+        "after OFFSET may stand ppm or steps, not \"p\\u{1b}pm\"",
+    );
+    check("hit ppm", 1, "\"ppm\" is one field too many for hit");
+}
+
+#[test]
+fn offsets_that_are_no_numbers() {
+    for word in [
+        "-",
+        ".",
+        "-.",
+        ".5",
+        "-.5",
+        "5.",
+        "1e3",
+        "+1",
+        "--1",
+        "0x10",
+        "1_0",
+        "1,5",
+        "1.2.3",
+        "1.-5",
+        "half",
+        "NaN",
+        "inf",
+        "\u{661}",
+        "0.\u{661}",
+        "0.123456\u{e9}",
+        "ppm",
+    ] {
+        check(
+            &format!("measurement 1 {} ppm", word),
+            1,
+            &format!(
+                "OFFSET is a decimal number of ppm, such as -12.5, not \"{}\"",
+                word
+            ),
+        );
+    }
+    for word in [
+        "-", "0.5", "-12.0", "5.", "1e3", "+1", "0x", "0.5ppm", "ppm",
+    ] {
+        let reason = format!(
+            "OFFSET is a whole number, not \"{}\"; in ppm it is written as in \
+             measurement 3 0.484375 ppm",
+            word
+        );
+        check(&format!("measurement 1 {}", word), 1, &reason);
+        check(&format!("measurement 1 {} steps", word), 1, &reason);
+    }
 }
 
 #[test]
@@ -213,6 +339,15 @@ fn what_is_allowed() {
     same("repeat 2\nend\nsetting control 1", "setting 0x40 1");
     same("8191 x hit", "repeat 8191\nhit\nend");
     same("measurement 255 -128", "measurement 0xff -0x80");
+    same("measurement 255 -2 ppm", "measurement 0xff -0x80 steps");
+    same(
+        "3 x measurement 1 0.5 ppm",
+        &"measurement 1 32 steps\n".repeat(3),
+    );
+    same(
+        "repeat 2\nmeasurement 8 -512 ppm\nend",
+        "2 x measurement 8 -32768 steps # the least",
+    );
     same("tick 0 0 -2147483648", "tick 0 0 -0x80000000");
     for (address, name) in sheet_tool::registers::all() {
         same(

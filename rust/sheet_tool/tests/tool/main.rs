@@ -5,6 +5,7 @@ mod commands;
 mod examples;
 mod faults;
 mod files;
+mod finer_readings;
 mod fresh_values;
 mod hosts;
 mod outputs;

@@ -41,6 +41,8 @@ fn help_says_it_all() {
         "setting",
         "tick",
         "measurement",
+        "OFFSET ppm",
+        "OFFSET steps",
         "hit",
         "write",
         "bucket",

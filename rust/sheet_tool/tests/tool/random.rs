@@ -51,7 +51,7 @@ fn in_runs<T: Copy>(random: &mut Random, count: usize, item: impl Fn(&mut Random
 
 fn event(random: &mut Random) -> Event {
     match random.below(8) {
-        0 => Event::short(MEASUREMENT, input(random), random.byte()),
+        0 => measurement(random),
         1 => Event::short(HIT, 0, 0),
         2 | 3 => Event::short(WRITE, address(random), value(random)),
         _ => Event {
@@ -61,6 +61,24 @@ fn event(random: &mut Random) -> Event {
             word: sample(random),
         },
     }
+}
+
+/// In 0.5 ppm or in 1/64 ppm.
+fn measurement(random: &mut Random) -> Event {
+    let input = input(random);
+    match random.below(2) {
+        0 => Event::short(MEASUREMENT, input, random.byte()),
+        _ => Event::finer_measurement(input, finer_offset(random)),
+    }
+}
+
+/// Any, or a step at most from a limit of a fresh unit, which are 25 and 31
+/// times 0.5 ppm.
+fn finer_offset(random: &mut Random) -> i16 {
+    let any = random.word() as i16;
+    let limit = 32 * random.pick(&[25, 31, -25, -31]);
+    let beside = random.pick(&[-1, 0, 1]);
+    random.pick(&[any, limit + beside])
 }
 
 /// Mostly an input that there is.

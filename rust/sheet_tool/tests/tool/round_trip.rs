@@ -52,6 +52,16 @@ fn every_setting_and_every_offset() {
     check(&sheet.to_bytes());
 }
 
+#[test]
+fn every_finer_offset() {
+    let measurement = |offset| Event::finer_measurement(offset as u8, offset);
+    let events: Vec<_> = (i16::MIN..=i16::MAX).map(measurement).collect();
+    for events in events.chunks(8_000) {
+        let (settings, events) = (vec![], events.to_vec());
+        check(&Sheet { settings, events }.to_bytes());
+    }
+}
+
 /// The text of a small sheet, word for word.
 #[test]
 fn the_text_of_a_sheet() {
@@ -60,9 +70,13 @@ fn the_text_of_a_sheet() {
 2 x setting control 1
 setting 0x50 255
 
-# events: 8
+# events: 13
 3 x tick 0x81 1 -7
 measurement 9 -128
+measurement 9 -0.015625 ppm
+2 x measurement 3 0.484375 ppm
+measurement 8 0 ppm
+measurement 1 100 ppm
 hit
 write input-8 0x0f
 write mask 0x00
