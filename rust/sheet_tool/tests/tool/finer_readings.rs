@@ -1,10 +1,11 @@
 //! Measurements in 1/64 ppm: how they are written, and their runs beside those
 //! in 0.5 ppm.
 
+use crate::examples::script;
 use crate::process::sheet_with;
 use crate::random;
 use crate::same_records;
-use controller::MEASUREMENT;
+use controller::{FINER_MEASUREMENT, MEASUREMENT};
 use shared::random::Random;
 use sheet_tool::event::Event;
 use sheet_tool::make::make;
@@ -181,6 +182,27 @@ fn the_old_kind_in_steps() {
         }
         assert_eq!(run(&sheet), records);
     }
+}
+
+/// What the example says of the old counter: with its readings rounded to 0.5
+/// ppm input 1 is the first to be selected, and is never left.
+#[test]
+fn the_example_with_readings_of_the_old_kind() {
+    let selected = |sheet: &Sheet| {
+        let selected = run(sheet).into_iter().map(|timed| timed.record.selected());
+        let mut selected: Vec<_> = selected.collect();
+        selected.dedup();
+        selected
+    };
+    let mut sheet = script("finer-readings").into_sheet().expect("no calls");
+    assert_eq!(selected(&sheet), [0, 2, 1, 2, 1]);
+    for event in &mut sheet.events {
+        if event.kind == FINER_MEASUREMENT {
+            let rounded = (event.word + 16).div_euclid(32);
+            *event = Event::short(MEASUREMENT, event.a, rounded as u8);
+        }
+    }
+    assert_eq!(selected(&sheet), [0, 1]);
 }
 
 /// Each command takes them, in a text and in a sheet.
