@@ -1,7 +1,6 @@
 // The fields of one event of a run sheet (document 01, "Run sheet and rack program", and document 02, #106): kind, a, b and the word.
 // Each contract is an equation with a rule of crates/rules/specs/Sheet.antt through specs/Bridge.antt; the rule is named above the function.
 ghost use mathlib.Core.Path.{_≡_};
-ghost use mathlib.Core.Bool.{true};
 ghost use lib.IntN.{pos, _*ℤ_};
 ghost use Rattle.rules.specs.Events.{halfPpm};
 ghost use Rattle.rules.specs.Sheet as rules;
@@ -16,7 +15,8 @@ pub enum Decoded {
     Bad,
 }
 
-// The rule `decodedNumber`: 0 for an event; 12, "kind over 3, lock over 1, or unused field not 0", where #106 has 4 for 3.
+// The rule `decodedNumber`: 0 for an event; 12, "kind over 3, lock over 1, or unused field not 0"; #106: kinds over 4, and a
+// word of kind 4 that is no offset.
 pub fn number_of(d: Decoded) -> u8
     ensures { λ r. ⌜ r ≡ rules.decodedNumber (decodedOf d) ⌝ }
 {
@@ -43,7 +43,7 @@ fn is_offset(word: i32) -> bool
     word <= 32_767
 }
 
-// "A measurement of the old kind means 32 times its byte": from 128 on, where the byte is below 0, -1 less what it takes to be one step short of that.
+// "A measurement of the old kind means 32 times its byte". From 128 on the byte is below 0, and 32 times it is -1 - (32 * (255 - b) + 31): nothing is negated.
 fn old_offset(b: u8) -> i16
     ensures { λ r. ⌜ r ≡ pos halfPpm *ℤ rules.signedByte b ⌝ }
 {
@@ -98,8 +98,7 @@ fn wordless(kind: u8, a: u8, b: u8) -> Decoded
     Decoded::Bad
 }
 
-// The rule `fields`. A word of 0 is told before the kinds but the tick, so that a tick is told by one test: beside the tick's, a test of kind 4 would become one
-// more of each tick.
+// The rule `fields`. The word is tested between kind 0 and kind 4: side by side the compiler makes one choice of both, and each tick costs a test more.
 pub fn decode(kind: u8, a: u8, b: u8, word: i32) -> Decoded
     ensures { λ r. ⌜ decodedOf r ≡ rules.fields kind a b word ⌝ }
 {

@@ -164,8 +164,8 @@ UnitEndsByCommand3 =
 
 -- ---- request #106: the finer readings
 
--- A history whose measurements are all of the old kind leaves the unit in the state that it had before, and each register with it: es has its offsets in
--- 0.5 ppm, and what the host sent are the same as they are now.
+-- After a list whose measurements are all of the old kind, the unit's state and each register are what the rules before #106 give: es has its offsets in 0.5
+-- ppm, and the host has sent the same events as they are now, `map finer es`.
 abbrev pub UnitAsBefore : Type 0
 UnitAsBefore =
     (start : State) (es : List Event) (u : Stored)

@@ -1,7 +1,7 @@
 -- Request #106: an offset and limits of which all are taken 32 times give the same alarm, and so the same state, records and check.
 use Prim.Native.Nat.{ℕ, zero, suc, _+_, _-_, _*_, _≤_, _<_}
 use mathlib.Core.Path.{_≡_, refl, ap, sym, _∙_, subst}
-use mathlib.Core.Bool.{Bool, true, false, not, _&&_}
+use mathlib.Core.Bool.{Bool, true, false, not}
 use mathlib.Core.List.{List, [], _∷_, _++_, map}
 use native.Mathlib.Omega.{arith}
 use lib.Dec.{leb, ltb, eqb}
@@ -9,17 +9,17 @@ use lib.IntN.{ℤ, pos, negsuc, negℤ, _*ℤ_, natAbs}
 use lib.ListN.{getD, drop}
 use borrow.Author.Tests.{leb-true, leb-false, le-leb, lt-leb, ltb-true, ltb-false, lt-ltb, le-ltb, eqb-true, ne-eqb}
 use Rattle.rules.specs.Words.{if_then_else_}
-use Rattle.rules.specs.Events.{Event, tick, measurement, hit, write, setBucket, assignBucket, halfPpm, oldKind}
+use Rattle.rules.specs.Events.{Event, tick, measurement, hit, write, setBucket, assignBucket, halfPpm}
 use Rattle.rules.specs.Monitors.{Input, frequencyAfter, measured}
 use Rattle.rules.specs.Settings.{reject, qualification}
 use Rattle.rules.specs.Selection.{altered}
 use Rattle.rules.specs.State.{State}
 use Rattle.rules.specs.Registers.{fresh}
 use Rattle.rules.specs.Refusals.{refusal, accepted}
-use Rattle.rules.specs.Run.{withInputs, afterMeasurement, effect, next, Outcome, outcome, run}
+use Rattle.rules.specs.Run.{withInputs, afterMeasurement, effect, next, outcome, run}
 use Rattle.rules.specs.Sheet.{word32, signed, signedByte, signedWord, Decoded, event, bad, isZero, isOffset, measurementOf, fields, decode, settingsCount, eventsAt, eventsCount, settingsOf, before, eventsOf, sheetEvents, isEvent, allEvents, checkBy, check, recordOf, records, front}
 use Rattle.rules.specs.OldReadings.{coarseEffect, coarseOutcome, coarseRun, coarseRecords, coarseFields, coarseDecode, coarseEventsOf, coarseAllEvents, coarseSheetEvents, coarseCheck, coarseFront}
-use Rattle.rules.specs.FinerReadings.{finer, EventAsBefore, HistoryAsBefore, ProvisoAsBefore, without4, SheetAsBefore, SixteenBits, FinerReadings}
+use Rattle.rules.specs.FinerReadings.{finer, EventAsBefore, HistoryAsBefore, ProvisoAsBefore, finerDecoded, FieldsAsBefore, without4, SheetAsBefore, SixteenBits, FinerReadings}
 use Rattle.rules.proofs.Fields.{fields-case}
 use Rattle.rules.proofs.Tests.{if-case, by-test, clash, not-true, and-left, and-right}
 
@@ -53,7 +53,7 @@ unfolding measured frequencyAfter
 measured-times r q x i = rw (natAbs-times x, ltb-times r (natAbs x), leb-times (natAbs x) q) refl
 
 proviso-as-before : ProvisoAsBefore
-proviso-as-before limit x = ((λ h. omega (arith, natAbs-times x, h)), (λ h. omega (arith, natAbs-times x, h)))
+proviso-as-before r i s x = ((λ fair e. omega (arith, natAbs-times x, fair e)), (λ small e. omega (arith, natAbs-times x, small e)))
 
 -- ---- a history
 
@@ -87,19 +87,14 @@ records-as-before s (e ∷ es) =
     ap (λ (l : List ℕ). recordOf (outcome s (finer e)) ++ l) (records-as-before (outcome s (finer e) .state) es)
     ∙ (λ t. recordOf (event-as-before s e t) ++ coarseRecords (event-as-before s e t .state) es)
 
--- ---- a sheet
-
--- decoded fields, their offset in 0.5 ppm, as they are now
-abbrev finerDecoded : Decoded → Decoded
-finerDecoded (event e) = event (finer e)
-finerDecoded bad = bad
+-- ---- fields, and a sheet
 
 -- the fields of a kind that is neither 1 nor 4 have no offset
 no-offset : (kind a b : ℕ) (w : ℤ) → eqb kind 1 ≡ false → eqb kind 4 ≡ false → fields kind a b w ≡ finerDecoded (fields kind a b w)
 no-offset kind a b w not1 not4 =
     fields-case (λ d. d ≡ finerDecoded d) kind a b w refl (λ lock. refl) (λ e. clash e not1) refl refl (λ e h. clash e not4)
 
-fields-as-before : (kind a b : ℕ) (w : ℤ) → eqb kind 4 ≡ false → fields kind a b w ≡ finerDecoded (coarseFields kind a b w)
+fields-as-before : FieldsAsBefore
 unfolding fields measurementOf coarseFields
 fields-as-before kind a b w not4 =
     if-case Before (ltb 3 kind)
@@ -200,6 +195,7 @@ finer-readings =
       event-as-before = event-as-before;
       history-as-before = history-as-before;
       proviso-as-before = proviso-as-before;
+      fields-as-before = fields-as-before;
       sheet-as-before = sheet-as-before;
       sixteen-bits = sixteen-bits;
     }

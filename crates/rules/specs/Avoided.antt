@@ -222,7 +222,7 @@ readings =
     ∷ wasSet (measurement 1 (pos 801)) is true
     -- −32,768 negated in 16 bits
     ∷ wasClear (measurement 1 (negsuc 32_767)) is true
-    -- kind 4 turned down, with b not 0, with a word a step outside 16 bits, or with byte 3 not 0; kind 5 let through
+    -- kind 4 turned down; let through with b not 0, with a word a step outside 16 bits, or with byte 3 not 0; kind 5 let through
     ∷ fields 4 3 0 (pos 32_767) is event (measurement 3 (pos 32_767))
     ∷ fields 4 3 0 (negsuc 32_767) is event (measurement 3 (negsuc 32_767))
     ∷ fields 4 3 1 (pos 0) is bad

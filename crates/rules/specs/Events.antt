@@ -6,7 +6,7 @@ use lib.IntN.{ℤ, pos, _*ℤ_}
 pub data Event : Type 0 where
   -- "Tick (irregular mask, bit i−1 for input i; lock flag; frequency sample in parts per 10^12"
   tick : ℕ → Bool → ℤ → Event
-  -- "Measurement (input 1 to 8;" and, #106, the offset, "a 16-bit signed number" in steps of 1/64 ppm. The rules have a meaning for every whole number.
+  -- "Measurement (input 1 to 8; ..": the input, and the offset, of #106 "a 16-bit signed number" in steps of 1/64 ppm; here any whole number
   measurement : ℕ → ℤ → Event
   -- "Hit"
   hit : Event

@@ -1,16 +1,18 @@
 -- Request #106 of document 02: what the finer readings leave as it was, against the rules before them (OldReadings.antt), and the width of an offset.
-use Prim.Native.Nat.{ℕ, zero, suc, _+_, _*_, _≤_}
+use Prim.Native.Nat.{ℕ, zero, suc, _+_, _≤_}
 use mathlib.Core.Path.{_≡_}
-use mathlib.Core.Bool.{Bool, true, not, _&&_}
+use mathlib.Core.Bool.{Bool, true, false, not, _&&_}
 use mathlib.Core.List.{List, map}
 use lib.Dec.{eqb}
-use lib.IntN.{ℤ, pos, _*ℤ_, natAbs}
+use lib.IntN.{ℤ, natAbs}
 use lib.ListN.{getD, drop}
-use Rattle.rules.specs.Events.{Event, tick, measurement, hit, write, setBucket, assignBucket, halfPpm, oldKind}
+use Rattle.rules.specs.Events.{Event, tick, measurement, hit, write, setBucket, assignBucket, oldKind}
+use Rattle.rules.specs.Settings.{qualification}
 use Rattle.rules.specs.State.{State}
 use Rattle.rules.specs.Run.{outcome, run}
-use Rattle.rules.specs.Sheet.{event, isOffset, fields, eventsAt, eventsCount, check, front}
-use Rattle.rules.specs.OldReadings.{coarseOutcome, coarseRun, coarseCheck, coarseFront}
+use Rattle.rules.specs.Sheet.{Decoded, event, bad, isOffset, fields, eventsAt, eventsCount, check, front}
+use Rattle.rules.specs.OldReadings.{coarseOutcome, coarseRun, coarseFields, coarseCheck, coarseFront}
+use Rattle.rules.specs.Service.{Fair}
 
 -- ---- a history
 
@@ -23,22 +25,31 @@ finer (write a v) = write a v
 finer (setBucket n size setLevel clearLevel d) = setBucket n size setLevel clearLevel d
 finer (assignBucket i n) = assignBucket i n
 
--- each event, in every state: the number and the state that it had
+-- each event, in every state: number and state are those of the rules before
 abbrev pub EventAsBefore : Type 0
 EventAsBefore = (s : State) (e : Event) → outcome s (finer e) ≡ coarseOutcome s e
 
--- "a history whose measurements are all of the old kind goes as before", from a fresh unit and from every other state
+-- a list whose measurements are all of the old kind leaves what it left under the rules before, from a fresh unit and from every other state
 abbrev pub HistoryAsBefore : Type 0
 HistoryAsBefore = (s : State) (es : List Event) → run s (map finer es) ≡ coarseRun s es
 
--- and what the promise of service asks of such a measurement is what it asked before
+-- what the promise of service asks of such a measurement is what it asked before: that r's is "in magnitude not above the qualification limit"
 abbrev pub ProvisoAsBefore : Type 0
 ProvisoAsBefore =
-    (limit : ℕ) (offset : ℤ)
-    → (natAbs (pos halfPpm *ℤ offset) ≤ halfPpm * limit → natAbs offset ≤ limit)
-    × (natAbs offset ≤ limit → natAbs (pos halfPpm *ℤ offset) ≤ halfPpm * limit)
+    (r i : ℕ) (s : State) (offset : ℤ)
+    → (Fair r s (oldKind i offset) → i ≡ r → natAbs offset ≤ qualification (s .settings))
+    × ((i ≡ r → natAbs offset ≤ qualification (s .settings)) → Fair r s (oldKind i offset))
 
--- ---- a sheet
+-- ---- fields, and a sheet
+
+-- decoded fields before the request, as they are now
+abbrev pub finerDecoded : Decoded → Decoded
+finerDecoded (event e) = event (finer e)
+finerDecoded bad = bad
+
+-- fields of every kind but 4 are what they were: the events of a host that never sends it are of the old kind
+abbrev pub FieldsAsBefore : Type 0
+FieldsAsBefore = (kind a b : ℕ) (word : ℤ) → eqb kind 4 ≡ false → fields kind a b word ≡ finerDecoded (coarseFields kind a b word)
 
 -- none of k events is of kind 4
 unfoldable pub without4 : ℕ → List ℕ → Bool
@@ -65,5 +76,6 @@ pub record FinerReadings : Type 0 where
   pub event-as-before : EventAsBefore
   pub history-as-before : HistoryAsBefore
   pub proviso-as-before : ProvisoAsBefore
+  pub fields-as-before : FieldsAsBefore
   pub sheet-as-before : SheetAsBefore
   pub sixteen-bits : SixteenBits

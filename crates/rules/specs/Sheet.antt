@@ -38,7 +38,8 @@ pub data Decoded : Type 0 where
   event : Event → Decoded
   bad : Decoded
 
--- its number: 0, or 12, "kind over 3, lock over 1, or unused field not 0", which #106 has cover "kinds over 4 from now on"
+-- its number: 0, or 12, "kind over 3, lock over 1, or unused field not 0"; #106: also "a word outside −32,768 to 32,767", and of kinds those "over 4 from
+-- now on"
 abbrev pub decodedNumber : Decoded → ℕ
 decodedNumber (event e) = 0
 decodedNumber bad = 12

@@ -1,4 +1,4 @@
--- A tick by its kind. Of the other kinds only 4 uses the word: where it is 0 the other fields decide, and where it is not each other rule gives bad.
+-- A tick by its kind. Of the other kinds only 4 uses the word: where it is 0 the other fields decide, and where it is not every kind but 4 gives bad.
 use mathlib.Core.Path.{_≡_, refl, ap, sym, _∙_}
 use mathlib.Core.Bool.{Bool, true, false, _&&_}
 use lib.Dec.{eqb}
