@@ -165,7 +165,8 @@ uint8_t unit_load(struct unit *u, const uint8_t *table, size_t len);
  *   kind 2, Hit:         a, b and word 0
  *   kind 3, write:       a address, b value, word 0
  *   kind 4, measurement: a input 1 to 8, b 0, word offset in 1/64 ppm, -32768 to 32767
- * A measurement of kind 1 means 32 times its byte, and the limits 0x44 and 0x45 are compared as 32 times theirs. Fields that are no event give 12. A refusal leaves every byte of the unit as it was, padding included. */
+ * A measurement of kind 1 means 32 times its byte, and the limits 0x44 and 0x45 are compared as 32 times theirs.
+ * Fields that are no event give 12. A refusal leaves every byte of the unit as it was, padding included. */
 uint8_t unit_event(struct unit *u, uint8_t kind, uint8_t a, uint8_t b, int32_t word);
 
 /* Sets one of the four bucket sets, which start as 8, 6, 4, 1: the refusal number, 14 or 0.

@@ -46,6 +46,9 @@ static void each_damaged(void (*take)(const char *what, const uint8_t *sheet, si
     changed[16] = 1;
     take("kind 4 with b 1: 12", changed, sizeof changed, 12);
     changed[16] = 0;
+    changed[17] = 1;
+    take("kind 4 with byte 3 not 0: 12", changed, sizeof changed, 12);
+    changed[17] = 0;
     changed[19] = 0x80;
     take("kind 4 with the word 32768: 12", changed, sizeof changed, 12);
 }

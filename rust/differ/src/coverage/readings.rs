@@ -76,10 +76,15 @@ impl Moment<'_> {
     }
 }
 
-/// An offset at one of the limits or a step beyond it, and what it does.
+/// An offset at one of the limits or a step beside it, and what it does.
 type Edge = (&'static str, fn(&Settings) -> u16, fn(&Finer) -> bool);
 
-const EDGES: [Edge; 6] = [
+const EDGES: [Edge; 9] = [
+    (
+        "cleared a step below 32 times the qualification limit",
+        |settings| finer_limit(settings.qualification).saturating_sub(1),
+        Finer::clears,
+    ),
     (
         "cleared at 32 times the qualification limit",
         |settings| finer_limit(settings.qualification),
@@ -93,6 +98,16 @@ const EDGES: [Edge; 6] = [
     (
         "kept clear a step beyond 32 times the qualification limit",
         |settings| finer_limit(settings.qualification) + 1,
+        Finer::keeps_clear,
+    ),
+    (
+        "kept set a step below 32 times the reject limit",
+        |settings| finer_limit(settings.reject) - 1,
+        Finer::keeps_set,
+    ),
+    (
+        "kept clear a step below 32 times the reject limit",
+        |settings| finer_limit(settings.reject) - 1,
         Finer::keeps_clear,
     ),
     (

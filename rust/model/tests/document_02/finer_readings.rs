@@ -1,5 +1,6 @@
 //! #106: measurements in 1/64 ppm, those of the old kind beside them, and the
-//! fields of kind 4 that are no event. The tuned model is held to the same.
+//! fields of kind 4 that are no event. The tuned model is held to the same
+//! alarms and sheets.
 
 use crate::bench::*;
 use model::{fast, records, sheet_of, Event, Record, Unit};

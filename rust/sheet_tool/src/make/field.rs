@@ -20,8 +20,10 @@ enum Form {
     Number,
     /// A number or a register's name.
     Address,
-    /// A whole number, where one in ppm may have been meant.
+    /// An offset in 0.5 ppm, where one in another unit may have been meant.
     Offset,
+    /// An offset in steps of 1/64 ppm.
+    Steps,
     /// A decimal number of ppm. It is read as steps of 1/64 ppm.
     Ppm,
 }
@@ -59,7 +61,7 @@ pub const DECAY: Field = field("DECAY", 0, 255);
 /// In 0.5 ppm.
 pub const OFFSET: Field = offset(Form::Offset, i8::MIN as i64, i8::MAX as i64);
 /// In steps of 1/64 ppm.
-pub const OFFSET_IN_STEPS: Field = offset(Form::Offset, i16::MIN as i64, i16::MAX as i64);
+pub const OFFSET_IN_STEPS: Field = offset(Form::Steps, i16::MIN as i64, i16::MAX as i64);
 pub const OFFSET_IN_PPM: Field = offset(Form::Ppm, i16::MIN as i64, i16::MAX as i64);
 pub const COUNT: Field = field("COUNT", 1, MOST_REPEATS);
 
@@ -84,7 +86,7 @@ impl Field {
         let number = match self.form {
             Form::Ppm => return steps(word),
             Form::Address => registers::address(word).map(i64::from),
-            Form::Number | Form::Offset => None,
+            Form::Number | Form::Offset | Form::Steps => None,
         };
         let number = number.or_else(|| whole(word))?;
         Some((number, number))
@@ -94,7 +96,7 @@ impl Field {
         let (what, hint) = match self.form {
             Form::Number => ("a number", ""),
             Form::Address => ("a number or a register's name", ""),
-            Form::Offset => ("a whole number", IN_PPM),
+            Form::Offset | Form::Steps => ("a whole number", IN_PPM),
             Form::Ppm => ("a decimal number of ppm, such as -12.5", ""),
         };
         format!(
@@ -111,7 +113,17 @@ impl Field {
             Form::Ppm => format!("{} to {} ppm", ppm(self.least), ppm(self.most)),
             _ => format!("{} to {}", self.least, self.most),
         };
-        format!("{} is {}, not {}", self.name, bounds, shortened(word))
+        let hint = match self.form {
+            Form::Offset => ", unless ppm or steps follows it",
+            _ => "",
+        };
+        format!(
+            "{} is {}, not {}{}",
+            self.name,
+            bounds,
+            shortened(word),
+            hint
+        )
     }
 }
 

@@ -87,8 +87,16 @@ fn numbers_that_do_not_fit() {
         "SAMPLE is -2147483648 to 2147483647, not -0x80000001",
     );
     check("measurement 256 0", 1, "INPUT is 0 to 255, not 256");
-    check("measurement 1 128", 1, "OFFSET is -128 to 127, not 128");
-    check("measurement 1 -129", 1, "OFFSET is -128 to 127, not -129");
+    check(
+        "measurement 1 128",
+        1,
+        "OFFSET is -128 to 127, not 128, unless ppm or steps follows it",
+    );
+    check(
+        "measurement 1 -129",
+        1,
+        "OFFSET is -128 to 127, not -129, unless ppm or steps follows it",
+    );
     check("write 0x100 0", 1, "ADDRESS is 0 to 255, not 0x100");
     check("write 0x40 256", 1, "VALUE is 0 to 255, not 256");
     check("setting 0x40 0x1ff", 1, "VALUE is 0 to 255, not 0x1ff");

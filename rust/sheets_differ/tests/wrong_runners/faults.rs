@@ -73,20 +73,11 @@ fn with_plain_hits(sheet: &[u8]) -> Vec<u8> {
     })
 }
 
-/// The sheet with the bytes of each finer measurement altered before.
+/// The sheet with the bytes of each finer measurement altered.
 fn with_kind_4(sheet: &[u8], alter: impl Fn(&mut [u8])) -> Vec<u8> {
     with_events(sheet, |event| {
         if event[0] == 4 {
             alter(event);
-        }
-    })
-}
-
-/// The sheet with one word of finer measurements taken as 0.
-fn without_word(sheet: &[u8], word: i32) -> Vec<u8> {
-    with_kind_4(sheet, |event| {
-        if event[4..] == word.to_le_bytes() {
-            event[4..].fill(0);
         }
     })
 }
@@ -96,6 +87,23 @@ fn with_words(sheet: &[u8], other: impl Fn(i32) -> i32) -> Vec<u8> {
     with_kind_4(sheet, |event| {
         let word = i32::from_le_bytes([event[4], event[5], event[6], event[7]]);
         event[4..].copy_from_slice(&other(word).to_le_bytes());
+    })
+}
+
+/// The sheet with one word in place of another in its finer measurements.
+fn with_word_as(sheet: &[u8], word: i32, other: i32) -> Vec<u8> {
+    with_words(sheet, |found| if found == word { other } else { found })
+}
+
+/// The sheet with each old measurement as a finer one of so many times its byte.
+fn with_old_kind_as(sheet: &[u8], times: i32) -> Vec<u8> {
+    with_events(sheet, |event| {
+        if event[0] == 1 && event[3..] == [0; 5] {
+            let word = times * i32::from(event[2] as i8);
+            event[0] = 4;
+            event[2] = 0;
+            event[4..].copy_from_slice(&word.to_le_bytes());
+        }
     })
 }
 
@@ -250,20 +258,19 @@ pub static FAULTS: &[Fault] = &[
         |sheet, room| check(&with_kind_4(sheet, |event| event[3] = 0), room),
     ),
     in_check("the word 32,768 let through", |sheet, room| {
-        check(&without_word(sheet, 32_768), room)
+        check(&with_word_as(sheet, 32_768, 0), room)
     }),
     in_check("the word -32,769 let through", |sheet, room| {
-        check(&without_word(sheet, -32_769), room)
+        check(&with_word_as(sheet, -32_769, 0), room)
     }),
     in_check("the word's upper half dropped", |sheet, room| {
         check(&with_words(sheet, |word| i32::from(word as i16)), room)
     }),
     in_check("the word 32,767 refused", |sheet, room| {
-        let other = with_words(sheet, |word| match word {
-            32_767 => 32_768,
-            _ => word,
-        });
-        check(&other, room)
+        check(&with_word_as(sheet, 32_767, 32_768), room)
+    }),
+    in_check("the word -32,768 refused", |sheet, room| {
+        check(&with_word_as(sheet, -32_768, -32_769), room)
     }),
     in_check("words below 0 refused", |sheet, room| {
         let other = with_words(sheet, |word| match word {
@@ -349,6 +356,12 @@ pub static FAULTS: &[Fault] = &[
     }),
     in_run("the word high byte first", |sheet, output| {
         run(&with_word_high_byte_first(sheet), output)
+    }),
+    in_run("31 times for the old kind", |sheet, output| {
+        run(&with_old_kind_as(sheet, 31), output)
+    }),
+    in_run("the old kind in finer steps", |sheet, output| {
+        run(&with_old_kind_as(sheet, 1), output)
     }),
     in_run("each finer offset taken as 0", |sheet, output| {
         run_with_offsets(sheet, output, |_| 0)
