@@ -1,8 +1,6 @@
 -- By the half that the byte lies in.
-use native.Mathlib.Omega.{arith}
 use borrow.Author.Needs.{needs}
 use mir.Syntax.{w16}
-use Prim.Native.Nat.{_+_, _*_}
 use Rattle.arith.proofs.Signed.{flip-fits}
 use Rattle.fields.proofs.Words.{old-low, old-high}
 use Rattle.fields.proofs.old_offset.Statement.{statement}
@@ -11,8 +9,11 @@ use Rattle.fields.proofs.old_offset.Tie as tie
 returns : tie.Need-returns
 returns c = old-low (c .before .before .args .b) (c .wide16 .result) (c .before .if1 .taken) (c .wide16 .ensures .0)
 
+cast-result-2 : tie.Need-cast-result-2
+cast-result-2 c = search needs
+
 sub-result : tie.Need-sub-result
-sub-result c = flip-fits w16 (32 * c .wide162 .result + 31) (omega (arith, c .wide162 .ensures .0, c .before .if1 .left))
+sub-result c = flip-fits w16 _ (cast-result-2 c .sfits)
 
 returns-2 : tie.Need-returns-2
 returns-2 c = old-high (c .before .before .args .b) (c .wide162 .result) (c .before .if1 .left) (c .wide162 .ensures .0)
@@ -29,6 +30,6 @@ old-offset-spec =
     (λ c κs. search needs)
     (λ c. search needs)
     (λ c. search needs)
-    (λ c. search needs)
+    cast-result-2
     sub-result
     returns-2)
