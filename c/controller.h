@@ -1,11 +1,12 @@
 /* The reference controller of the eight-input timing unit, for a host in C. Three libraries, of which a program links those that it uses:
- *   libhost.a:  unit_fresh, unit_load, unit_event, unit_read, unit_set_bucket, unit_assign_bucket
+ *   libhost.a:  unit_fresh, unit_load, unit_event, unit_read, unit_set_bucket, unit_assign_bucket, unit_set_week, unit_set_windows
  *   librun.a:   sheet_check, sheet_run
  *   libprint.a: sheet_print
  *
  * The host owns a unit's state. It makes one with unit_fresh, and may make it anew with fresh values of its own by unit_load; it lends it to unit_event for
- * each event, to unit_set_bucket and unit_assign_bucket for other numbers of the activity buckets, and to unit_read for each read, and writes it by nothing
- * else. A tick is 128 ms. Documents 01 and 02 say what each event and call does and what each register shows.
+ * each event, to unit_set_bucket and unit_assign_bucket for other numbers of the activity buckets, to unit_set_week and unit_set_windows for the busy hours,
+ * and to unit_read for each read, and writes it by nothing else. A tick is 128 ms. Documents 01 and 02 say what each event and call does and what each
+ * register shows.
  *
  * The interface is the registers, by unit_read, and the records and pages of a run sheet. The fields of struct unit are for the eye: they may change from one version
  * to the next, and what is said of them here holds of a unit that is kept so.
@@ -87,6 +88,12 @@ struct unit_loop {
     uint16_t lock;   /* lock run */
 };
 
+/* The week of the busy hours: 4,725,000 ticks. */
+struct unit_week {
+    uint32_t place;       /* the place of the next tick, 0 to 4,724,999 */
+    uint32_t windows[16]; /* start and end of each window in turn, and 0 and 0 where there is none; a pair whose start is not before its end is no window */
+};
+
 /* The whole state. */
 struct unit {
     struct unit_monitors monitors;
@@ -94,6 +101,7 @@ struct unit {
     struct unit_history history;
     struct unit_choice choice;
     uint32_t holding; /* ticks in Holdover after the event that entered it, 255 hours at most */
+    struct unit_week week;
     struct unit_loop pll;
     uint8_t regs[27]; /* a byte for each register, 0x1c to 0x27 and 0x40 to 0x4e; 0 for 0x26 and those that are read only */
 };
@@ -105,7 +113,8 @@ CONTROLLER_ASSERT(sizeof(struct unit_tally) == 16, "size of unit_tally");
 CONTROLLER_ASSERT(sizeof(struct unit_history) == 1552, "size of unit_history");
 CONTROLLER_ASSERT(sizeof(struct unit_choice) == 16, "size of unit_choice");
 CONTROLLER_ASSERT(sizeof(struct unit_loop) == 6, "size of unit_loop");
-CONTROLLER_ASSERT(sizeof(struct unit) == 1736, "size of unit");
+CONTROLLER_ASSERT(sizeof(struct unit_week) == 68, "size of unit_week");
+CONTROLLER_ASSERT(sizeof(struct unit) == 1808, "size of unit");
 CONTROLLER_ASSERT(CONTROLLER_ALIGN(struct unit) == 8, "alignment of unit");
 
 CONTROLLER_ASSERT(offsetof(struct unit_monitors, level) == 0, "offset of level");
@@ -138,13 +147,16 @@ CONTROLLER_ASSERT(offsetof(struct unit_choice, aim) == 9, "offset of aim");
 CONTROLLER_ASSERT(offsetof(struct unit_loop, unlock) == 0, "offset of unlock");
 CONTROLLER_ASSERT(offsetof(struct unit_loop, mode) == 2, "offset of mode");
 CONTROLLER_ASSERT(offsetof(struct unit_loop, lock) == 4, "offset of lock");
+CONTROLLER_ASSERT(offsetof(struct unit_week, place) == 0, "offset of place");
+CONTROLLER_ASSERT(offsetof(struct unit_week, windows) == 4, "offset of windows");
 CONTROLLER_ASSERT(offsetof(struct unit, monitors) == 0, "offset of monitors");
 CONTROLLER_ASSERT(offsetof(struct unit, buckets) == 96, "offset of buckets");
 CONTROLLER_ASSERT(offsetof(struct unit, history) == 128, "offset of history");
 CONTROLLER_ASSERT(offsetof(struct unit, choice) == 1680, "offset of choice");
 CONTROLLER_ASSERT(offsetof(struct unit, holding) == 1696, "offset of holding");
-CONTROLLER_ASSERT(offsetof(struct unit, pll) == 1700, "offset of pll");
-CONTROLLER_ASSERT(offsetof(struct unit, regs) == 1706, "offset of regs");
+CONTROLLER_ASSERT(offsetof(struct unit, week) == 1700, "offset of week");
+CONTROLLER_ASSERT(offsetof(struct unit, pll) == 1768, "offset of pll");
+CONTROLLER_ASSERT(offsetof(struct unit, regs) == 1774, "offset of regs");
 
 /* The standard fresh unit: document 01's values in its registers. */
 struct unit unit_fresh(void);
@@ -153,8 +165,8 @@ struct unit unit_fresh(void);
  * part: it need not be one that unit_fresh made, but its bytes must have been written.
  *   table: a byte for each register in address order, 0x1c to 0x27 and then 0x40 to 0x4e; 0 for the command 0x26 and for those that are read only
  *   len:   27
- * Bits 7-4 of 0x1c to 0x23 are dropped. All else is as in any fresh unit, bucket sets, history and backup too: it is in Free Run with selected 0, and nothing
- * is left of the unit as it was.
+ * Bits 7-4 of 0x1c to 0x23 are dropped. All else is as in any fresh unit, bucket sets, week and windows, history and backup too: it is in Free Run with
+ * selected 0, and nothing is left of the unit as it was.
  * Another length, a nonzero where 0 has to be, a value above the register's largest, or reject - qualification under 6 give 15. A refusal leaves every byte of
  * the unit as it was, padding included. Unit and table do not overlap. */
 uint8_t unit_load(struct unit *u, const uint8_t *table, size_t len);
@@ -186,6 +198,22 @@ uint8_t unit_set_bucket(struct unit *u, uint8_t set, uint8_t size, uint8_t set_l
  * The input is put at the set's size, as by unit_set_bucket, also where it had the set before. A refusal leaves every byte of the unit as it was, padding
  * included. */
 uint8_t unit_assign_bucket(struct unit *u, uint8_t input, uint8_t set);
+
+/* Sets the place in the week, which starts at 0: the refusal number, 16 or 0. The week has 4,725,000 ticks; each accepted tick takes the place that stands,
+ * and after its selection the place moves on by 1, from 4,724,999 to 0.
+ *   place: of the next accepted tick, 0 to 4,724,999, else 16
+ * It may be set at any time, in a window too. A refusal leaves every byte of the unit as it was, padding included. */
+uint8_t unit_set_week(struct unit *u, uint32_t place);
+
+/* Sets the windows of the busy hours, all at once: the refusal number, 16 or 0. A fresh unit has none. At a place in a window no reversion switches; a
+ * selected candidate that is lost is left at once, there as elsewhere.
+ *   count:   0 to 8; 0 for no windows
+ *   windows: start and end of each of the first count, in ticks from the week's start: a window has the places from its start up to but not including its
+ *            end. All 16 numbers are the caller's, those after the first count are not looked at.
+ * A count over 8, a start not before its end, an end over 4,725,000, a start that is not after the end of the window before it, so that no free tick is
+ * between, or a first start of 0 with a last end of 4,725,000 give 16. A refusal leaves every byte of the unit as it was, padding included. Unit and windows
+ * do not overlap. */
+uint8_t unit_set_windows(struct unit *u, uint8_t count, const uint32_t windows[16]);
 
 /* A read of the lent unit: 256 times the refusal, plus the byte. */
 uint16_t unit_read(const struct unit *u, uint8_t address);

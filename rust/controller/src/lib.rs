@@ -87,6 +87,15 @@ pub struct Loop {
     pub lock: u16,
 }
 
+/// The place in the week, and the start and end of each window in turn; a pair
+/// whose start is not before its end is no window.
+#[repr(C)]
+#[derive(Clone, Copy, Debug, PartialEq, Eq)]
+pub struct Week {
+    pub place: u32,
+    pub windows: [u32; 16],
+}
+
 /// The whole state of a unit.
 #[repr(C)]
 #[derive(Clone, Copy, Debug, PartialEq, Eq)]
@@ -96,6 +105,7 @@ pub struct Unit {
     pub history: History,
     pub choice: Choice,
     pub holding: u32,
+    pub week: Week,
     pub pll: Loop,
     pub regs: [u8; 27],
 }
@@ -112,7 +122,8 @@ const _: () = {
     assert!(laid_out::<History>(1552, 8));
     assert!(laid_out::<Choice>(16, 8));
     assert!(laid_out::<Loop>(6, 2));
-    assert!(laid_out::<Unit>(1736, 8));
+    assert!(laid_out::<Week>(68, 4));
+    assert!(laid_out::<Unit>(1808, 8));
 };
 
 extern "C" {
@@ -127,6 +138,8 @@ extern "C" {
         decay: u8,
     ) -> u8;
     fn unit_assign_bucket(unit: *mut Unit, input: u8, set: u8) -> u8;
+    fn unit_set_week(unit: *mut Unit, place: u32) -> u8;
+    fn unit_set_windows(unit: *mut Unit, count: u8, windows: *const [u32; 16]) -> u8;
     fn unit_load(unit: *mut Unit, table: *const u8, length: usize) -> u8;
     fn unit_read(unit: *const Unit, address: u8) -> u16;
 }
@@ -170,6 +183,25 @@ impl Unit {
         // SAFETY: the pointer is to a whole unit, lent for the call alone; the
         // function takes every value of the other arguments.
         unsafe { unit_assign_bucket(self, input, set) }
+    }
+
+    /// Sets the place in the week, that of the next accepted tick: 16 if it is
+    /// 4,725,000 or more, 0 if accepted. A refusal leaves every byte of the unit
+    /// as it was, padding included.
+    pub fn set_week(&mut self, place: u32) -> u8 {
+        // SAFETY: the pointer is to a whole unit, lent for the call alone; the
+        // function takes every value of the other argument.
+        unsafe { unit_set_week(self, place) }
+    }
+
+    /// Sets the windows of the busy hours: the first `count` pairs, each from its
+    /// start up to but not including its end. 16 if there are over eight, or they
+    /// are out of the bounds of document 02's #107, 0 if accepted. A refusal
+    /// leaves every byte of the unit as it was, padding included.
+    pub fn set_windows(&mut self, count: u8, windows: &[u32; 16]) -> u8 {
+        // SAFETY: the pointers are to a whole unit and to 16 numbers, lent for the
+        // call alone; the function takes every value of them and of the count.
+        unsafe { unit_set_windows(self, count, windows) }
     }
 
     /// Makes the unit anew, a fresh one with these values of its registers: a

@@ -20,8 +20,8 @@ pub const STATES: [&str; 6] = [
 ];
 
 /// "Turned down", from 1 on; what 12 and 13 also mean is document 02's, #106 and
-/// #101, and 14 and 15 are of its #104 and #105.
-const REASONS: [&str; 15] = [
+/// #101, and 14, 15 and 16 are of its #104, #105 and #107.
+const REASONS: [&str; 16] = [
     "address not in the map",
     "write to a read-only register",
     "value above the register's largest",
@@ -37,6 +37,7 @@ const REASONS: [&str; 15] = [
     "output under 4 bytes a record, or page output under 1,400 bytes a page",
     "bucket set out of its bounds, or set number over 3",
     "table not 27 bytes, a forbidden nonzero, a value above the register's largest, or reject - qualification under 6",
+    "place past the week's end, over eight windows, or windows out of their bounds",
 ];
 
 /// The reason of a refusal, by its number from 1.

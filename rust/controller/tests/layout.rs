@@ -44,10 +44,12 @@ fn the_fields_lie_where_the_interface_says() {
         ("selected", offset(&unit, &unit.choice.selected), 1688),
         ("aim", offset(&unit, &unit.choice.aim), 1689),
         ("holding", offset(&unit, &unit.holding), 1696),
-        ("unlock", offset(&unit, &unit.pll.unlock), 1700),
-        ("mode", offset(&unit, &unit.pll.mode), 1702),
-        ("lock", offset(&unit, &unit.pll.lock), 1704),
-        ("regs", offset(&unit, &unit.regs), 1706),
+        ("place", offset(&unit, &unit.week.place), 1700),
+        ("windows", offset(&unit, &unit.week.windows), 1704),
+        ("unlock", offset(&unit, &unit.pll.unlock), 1768),
+        ("mode", offset(&unit, &unit.pll.mode), 1770),
+        ("lock", offset(&unit, &unit.pll.lock), 1772),
+        ("regs", offset(&unit, &unit.regs), 1774),
     ];
     for (name, found, expected) in places {
         assert_eq!(found, expected, "{}", name);
@@ -99,6 +101,30 @@ fn the_library_takes_bucket_sets() {
     assert_eq!(unit.assign_bucket(9, 4), 6);
     assert_eq!(unit.assign_bucket(8, 4), 14);
     assert_eq!(unit, before);
+}
+
+/// The week of a fresh unit, its two calls and their refusals, through the
+/// library.
+#[test]
+fn the_library_takes_the_week() {
+    let mut unit = Unit::fresh();
+    assert_eq!((unit.week.place, unit.week.windows), (0, [0; 16]));
+    let mut windows = [7; 16];
+    windows[..4].copy_from_slice(&[0, 10, 11, 4_724_999]);
+    assert_eq!(unit.set_windows(2, &windows), 0);
+    assert_eq!(unit.set_week(4_724_999), 0);
+    let mut kept = [0; 16];
+    kept[..4].copy_from_slice(&windows[..4]);
+    assert_eq!((unit.week.place, unit.week.windows), (4_724_999, kept));
+    let before = unit;
+    assert_eq!(unit.set_week(4_725_000), 16);
+    assert_eq!(unit.set_windows(3, &windows), 16);
+    assert_eq!(unit.set_windows(9, &windows), 16);
+    assert_eq!(unit, before);
+    assert_eq!(unit.event(0, 0, 0, 0), 0);
+    assert_eq!(unit.week.place, 0);
+    assert_eq!(unit.set_windows(0, &windows), 0);
+    assert_eq!(unit.week.windows, [0; 16]);
 }
 
 /// A table that loads, with a byte for each register, and tables that do not,
