@@ -1,15 +1,16 @@
--- The calls of the host's (#104): a run sheet has none, and a list without one leaves the sets as they start.
+-- The calls of the host's (#104, #107): a run sheet has none, and a list without one leaves the sets as they start, and sets no window.
 use Prim.Native.Nat.{ℕ, zero, suc, _+_}
-use mathlib.Core.Path.{_≡_, refl, _∙_}
+use mathlib.Core.Path.{_≡_, refl, ap, _∙_}
 use mathlib.Core.Bool.{false, true≢false}
 use mathlib.Core.List.{List, [], _∷_, _++_}
 use lib.Dec.{eqb}
 use lib.IntN.{ℤ}
 use lib.ListN.{getD, drop}
-use Rattle.rules.specs.Events.{Event, tick, measurement, hit, write, setBucket, assignBucket, isCall}
+use Rattle.rules.specs.Events.{Event, tick, measurement, hit, write, setBucket, assignBucket, setWeek, setWindows, isCall}
 use Rattle.rules.specs.State.{State}
-use Rattle.rules.specs.Tick.{steps1to4, step5, ticked}
-use Rattle.rules.specs.Buckets.{freshBuckets}
+use Rattle.rules.specs.Week.{Window, freshWeek}
+use Rattle.rules.specs.Tick.{weekAfter, steps1to4, step5, ticked}
+use Rattle.rules.specs.Buckets.{Buckets, freshBuckets}
 use Rattle.rules.specs.Registers.{freshWith}
 use Rattle.rules.specs.Refusals.{accepted}
 use Rattle.rules.specs.Run.{afterMeasurement, afterHit, afterWrite, effect, next, run}
@@ -63,22 +64,32 @@ no-calls s =
     callless-append (settingsOf (settingsCount s) (drop 2 s)) (eventsOf (eventsCount s) (drop (eventsAt s + 2) s))
     (callless-settings (settingsCount s) (drop 2 s)) (callless-events (eventsCount s) (drop (eventsAt s + 2) s))
 
--- ---- the sets
+-- ---- the sets and the windows
 
-kept-next : (s : State) (e : Event) → isCall e ≡ false → next s e .buckets ≡ s .buckets
-unfolding next effect ticked step5 steps1to4 afterMeasurement afterHit afterWrite
-kept-next s (tick mask lock x) p = if-case (λ (t : State). t .buckets ≡ s .buckets) (accepted s (tick mask lock x)) (λ e. refl) (λ e. refl)
-kept-next s (measurement i x) p = if-case (λ (t : State). t .buckets ≡ s .buckets) (accepted s (measurement i x)) (λ e. refl) (λ e. refl)
-kept-next s hit p = if-case (λ (t : State). t .buckets ≡ s .buckets) (accepted s hit) (λ e. refl) (λ e. refl)
-kept-next s (write a v) p = if-case (λ (t : State). t .buckets ≡ s .buckets) (accepted s (write a v)) (λ e. refl) (λ e. refl)
+abbrev Set : Type 0
+Set = Buckets × List Window
+
+abbrev setIn : State → Set
+setIn s = (s .buckets, s .week .windows)
+
+kept-next : (s : State) (e : Event) → isCall e ≡ false → setIn (next s e) ≡ setIn s
+unfolding next effect ticked step5 steps1to4 weekAfter afterMeasurement afterHit afterWrite
+kept-next s (tick mask lock x) p = if-case (λ (t : State). setIn t ≡ setIn s) (accepted s (tick mask lock x)) (λ e. refl) (λ e. refl)
+kept-next s (measurement i x) p = if-case (λ (t : State). setIn t ≡ setIn s) (accepted s (measurement i x)) (λ e. refl) (λ e. refl)
+kept-next s hit p = if-case (λ (t : State). setIn t ≡ setIn s) (accepted s hit) (λ e. refl) (λ e. refl)
+kept-next s (write a v) p = if-case (λ (t : State). setIn t ≡ setIn s) (accepted s (write a v)) (λ e. refl) (λ e. refl)
 kept-next s (setBucket n size setLevel clearLevel d) p = absurd (true≢false p)
 kept-next s (assignBucket i n) p = absurd (true≢false p)
+kept-next s (setWeek place) p = absurd (true≢false p)
+kept-next s (setWindows windows) p = absurd (true≢false p)
 
-kept-run : (es : List Event) (s : State) → Callless es → run s es .buckets ≡ s .buckets
+kept-run : (es : List Event) (s : State) → Callless es → setIn (run s es) ≡ setIn s
 unfolding run
 kept-run [] s p = refl
 kept-run (e ∷ es) s p = kept-run es (next s e) (p .1) ∙ kept-next s e (p .0)
 
 pub untouched : Untouched
-unfolding freshWith
-untouched start f es p = kept-run es start p ∙ each-fresh (λ (s : State). s .buckets ≡ freshBuckets) (λ set. refl) start f
+unfolding freshWith freshWeek
+untouched start f es p =
+    let kept = kept-run es start p ∙ each-fresh (λ (s : State). setIn s ≡ (freshBuckets, [])) (λ set. refl) start f in
+    (ap (λ (x : Set). x .0) kept, ap (λ (x : Set). x .1) kept)

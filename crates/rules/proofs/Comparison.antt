@@ -9,17 +9,18 @@ use native.Mathlib.Omega.{arith}
 use lib.Dec.{eqb}
 use lib.IntN.{ℤ}
 use Rattle.rules.specs.Words.{if_then_else_, isTracked}
-use Rattle.rules.specs.Events.{Event, tick, measurement, hit, write, setBucket, assignBucket}
+use Rattle.rules.specs.Events.{Event, tick, measurement, hit, write, setBucket, assignBucket, setWeek, setWindows}
 use Rattle.rules.specs.Pll.{alarmDue}
 use Rattle.rules.specs.Settings.{Settings, policy}
+use Rattle.rules.specs.Week.{Week}
 use Rattle.rules.specs.Selection.{Inputs, Choice, chosen, unselectedLoop}
 use Rattle.rules.specs.Buckets.{bucketFrom, Buckets, setAt, withSet, withAssigned, putAtSize, having}
 use Rattle.rules.specs.History.{held, filling, commanded, freshHistory}
-use Rattle.rules.specs.State.{State, selected, Ready}
-use Rattle.rules.specs.Tick.{watchedAfter, loopAfter, inputsAfter, steps1to4, step5, ticked}
+use Rattle.rules.specs.State.{State, selected, Blocked, Ready}
+use Rattle.rules.specs.Tick.{watchedAfter, loopAfter, inputsAfter, weekAfter, steps1to4, step5, ticked}
 use Rattle.rules.specs.Registers.{freshWith}
 use Rattle.rules.specs.Refusals.{commandRefused, refusal, accepted}
-use Rattle.rules.specs.Run.{afterMeasurement, afterHit, afterWrite, afterCall, afterSet, afterAssign, effect, next, run}
+use Rattle.rules.specs.Run.{afterMeasurement, afterHit, afterWrite, afterCall, afterSet, afterAssign, afterWeek, effect, next, run}
 use Rattle.rules.specs.Laws.{SoundHistory, Lawful}
 use Rattle.rules.specs.OldHistory.{oldCommanded, withHistory, oldEffect, oldNext, oldRun}
 use Rattle.rules.specs.Comparison.{NeverLessReady}
@@ -35,6 +36,7 @@ record Twin (o n : State) : Type 0 where
   pub buckets-is : o .buckets ≡ n .buckets
   pub settings-is : o .settings ≡ n .settings
   pub choice-is : o .choice ≡ n .choice
+  pub week-is : o .week ≡ n .week
   pub loops : LoopAlike (o .loop) (n .loop)
   pub behind : Behind (o .history) (n .history)
 
@@ -52,8 +54,8 @@ module _ (o n : State) (t : Twin o n) (w : SoundHistory (n .history)) where
     unfolding inputsAfter watchedAfter alarmDue
     inputs-same = rw (driven-alike .unlock-is, t .choice-is, t .buckets-is, t .inputs-is) refl
 
-    choice-same : chosen (o .settings) (inputsAfter mask lock o) (o .choice) ≡ chosen (n .settings) (inputsAfter mask lock n) (n .choice)
-    choice-same = rw (inputs-same, t .settings-is, t .choice-is) refl
+    choice-same : chosen (Blocked o) (o .settings) (inputsAfter mask lock o) (o .choice) ≡ chosen (Blocked n) (n .settings) (inputsAfter mask lock n) (n .choice)
+    choice-same = rw (inputs-same, t .settings-is, t .choice-is, t .week-is) refl
 
     loops-alike : LoopAlike (steps1to4 mask lock o .loop) (steps1to4 mask lock n .loop)
     unfolding steps1to4
@@ -69,6 +71,7 @@ module _ (o n : State) (t : Twin o n) (w : SoundHistory (n .history)) where
           buckets-is = t .buckets-is;
           settings-is = t .settings-is;
           choice-is = choice-same;
+          week-is = ap weekAfter (t .week-is);
           loops = loops-alike;
           behind =
               behind-at _ _ _ _ _ _ x (o .history) (n .history) (ap policy (t .settings-is)) (ap (λ (c : Choice). c .selected) choice-same)
@@ -84,6 +87,7 @@ module _ (o n : State) (t : Twin o n) (w : SoundHistory (n .history)) where
         buckets-is = t .buckets-is;
         settings-is = t .settings-is;
         choice-is = t .choice-is;
+        week-is = t .week-is;
         loops = t .loops;
         behind = t .behind;
       }
@@ -97,6 +101,7 @@ module _ (o n : State) (t : Twin o n) (w : SoundHistory (n .history)) where
         buckets-is = t .buckets-is;
         settings-is = t .settings-is;
         choice-is = refl;
+        week-is = t .week-is;
         loops = record { modes = alike-none (Ready o) (Ready n) twin-ready; lock-is = refl; unlock-is = refl };
         behind = behind-emptied (o .history) (n .history) (t .behind);
       }
@@ -111,6 +116,21 @@ module _ (o n : State) (t : Twin o n) (w : SoundHistory (n .history)) where
         buckets-is = ap f (t .buckets-is);
         settings-is = t .settings-is;
         choice-is = t .choice-is;
+        week-is = t .week-is;
+        loops = t .loops;
+        behind = t .behind;
+      }
+
+  -- a call of the week's
+  twin-week : (f : Week → Week) → Twin (afterWeek (f (o .week)) o) (afterWeek (f (n .week)) n)
+  unfolding afterWeek
+  twin-week f =
+      record {
+        inputs-is = t .inputs-is;
+        buckets-is = t .buckets-is;
+        settings-is = t .settings-is;
+        choice-is = t .choice-is;
+        week-is = ap f (t .week-is);
         loops = t .loops;
         behind = t .behind;
       }
@@ -125,6 +145,7 @@ module _ (o n : State) (t : Twin o n) (w : SoundHistory (n .history)) where
           buckets-is = t .buckets-is;
           settings-is = rw (t .settings-is) refl;
           choice-is = t .choice-is;
+          week-is = t .week-is;
           loops = t .loops;
           behind = go (eqb a 0x26) refl;
         }
@@ -141,6 +162,7 @@ module _ (o n : State) (t : Twin o n) (w : SoundHistory (n .history)) where
           buckets-is = t .buckets-is;
           settings-is = rw e (t .settings-is);
           choice-is = t .choice-is;
+          week-is = t .week-is;
           loops = t .loops;
           behind = rw e (behind-alone v (o .history) (n .history) (t .behind) (ok e) which);
         }
@@ -192,6 +214,10 @@ module _ (o n : State) (t : Twin o n) (w : SoundHistory (n .history)) where
   twin-next (assignBucket i m) =
       both (accepted n (assignBucket i m)) (accepted n (assignBucket i m)) refl
       (twin-called o n t w (withAssigned i m) (λ bs. putAtSize (eqb i) (setAt bs m .size)))
+  twin-next (setWeek place) =
+      both (accepted n (setWeek place)) (accepted n (setWeek place)) refl (twin-week o n t w (λ week. record { place = place; windows = week .windows }))
+  twin-next (setWindows windows) =
+      both (accepted n (setWindows windows)) (accepted n (setWindows windows)) refl (twin-week o n t w (λ week. record { place = week .place; windows = windows }))
 
 twin-run : (es : List Event) (o n : State) → Twin o n → Lawful n → Twin (oldRun o es) (run n es)
 unfolding run oldRun
@@ -206,6 +232,7 @@ twin-fresh set =
       buckets-is = refl;
       settings-is = refl;
       choice-is = refl;
+      week-is = refl;
       loops = record { modes = same; lock-is = refl; unlock-is = refl };
       behind = record { last-is = refl; backup-too = λ e. e; ahead = inr (omega arith, refl) };
     }

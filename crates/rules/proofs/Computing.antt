@@ -4,6 +4,7 @@ use Rattle.rules.specs.Words
 use Rattle.rules.specs.Monitors
 use Rattle.rules.specs.Pll
 use Rattle.rules.specs.Settings
+use Rattle.rules.specs.Week
 use Rattle.rules.specs.Selection
 use Rattle.rules.specs.Buckets
 use Rattle.rules.specs.History
@@ -27,6 +28,8 @@ unfolding
     Monitors.monitored Monitors.qualified Monitors.unsoaked Monitors.atSize Monitors.lockAlarmed Monitors.frequencyAfter Monitors.measured Monitors.freshInput
     Pll.modeNumber Pll.unlocked Pll.looped Pll.alarmDue
     Settings.priority Settings.revertive Settings.usable Settings.ahead Settings.delayTicks
+    Week.freshWeek Week.inWindow Week.busy Week.advanced Week.longest Week.isWindow Week.ascending Week.startsWeek Week.lastEnd Week.endsWeek Week.windowsFit
+    Week.windowsFrom
     Selection.altered Selection.eachFrom Selection.available Selection.candidate Selection.bestUpTo Selection.best Selection.settled
     Selection.waitAfter Selection.switches Selection.reverted Selection.reselected Selection.manual Selection.chosen Selection.unselectedMode Selection.unselectedLoop
     Selection.modeAfter Selection.steered
@@ -34,13 +37,13 @@ unfolding
     History.ready History.held History.withBlocks History.openEmptied History.saturated History.filling History.completed History.sampled
     History.startsBuilding History.withLast History.noted History.recorded History.sumOf History.value History.backedUp History.replaced
     History.withCommand History.commanded History.freshHistory
-    Tick.watched Tick.watchedAfter Tick.loopAfter Tick.inputsAfter Tick.holdingAfter Tick.steps1to4 Tick.step5 Tick.ticked
+    Tick.watched Tick.watchedAfter Tick.loopAfter Tick.inputsAfter Tick.holdingAfter Tick.weekAfter Tick.steps1to4 Tick.step5 Tick.ticked
     Registers.registers Registers.place Registers.inMap Registers.register Registers.readOnly Registers.largest Registers.stored Registers.written
     Registers.settingsFrom Registers.freshWith Registers.freshTable Registers.fresh
     Reading.maskUpTo Reading.countUpTo Reading.qualifiedMask Reading.availableMask Reading.availableCount Reading.hours Reading.stateByte
     Reading.statusByte Reading.twos Reading.valueByte Reading.shown Reading.content Reading.read
-    Refusals.limitsApart Refusals.limitsRefused Refusals.commandRefused Refusals.writeRefusal Refusals.setRefusal Refusals.assignRefusal Refusals.refusal
-    Run.afterMeasurement Run.afterHit Run.afterWrite Run.afterCall Run.afterSet Run.afterAssign Run.effect Run.next Run.outcome Run.run
+    Refusals.limitsApart Refusals.limitsRefused Refusals.commandRefused Refusals.writeRefusal Refusals.setRefusal Refusals.assignRefusal Refusals.weekRefusal Refusals.windowsRefusal Refusals.refusal
+    Run.afterMeasurement Run.afterHit Run.afterWrite Run.afterCall Run.afterSet Run.afterAssign Run.afterWeek Run.effect Run.next Run.outcome Run.run
     Loading.most Loading.fits Loading.loads Loading.loadRefusal Loading.freshFrom Loading.loading
     Sheet.signed Sheet.tickOf Sheet.measurementOf Sheet.hitOf Sheet.writeOf Sheet.finerOf Sheet.fields Sheet.decode Sheet.settingsCount Sheet.eventsAt
     Sheet.eventsCount Sheet.sheetEnd Sheet.settingsOf Sheet.before Sheet.eventsOf Sheet.sheetEvents Sheet.isEvent Sheet.allEvents Sheet.recordCount

@@ -9,7 +9,7 @@ use lib.IntN.{ℤ, pos, negsuc, negℤ, _*ℤ_, natAbs}
 use lib.ListN.{getD, drop}
 use borrow.Author.Tests.{leb-true, leb-false, le-leb, lt-leb, ltb-true, ltb-false, lt-ltb, le-ltb, eqb-true, ne-eqb}
 use Rattle.rules.specs.Words.{if_then_else_}
-use Rattle.rules.specs.Events.{Event, tick, measurement, hit, write, setBucket, assignBucket, halfPpm}
+use Rattle.rules.specs.Events.{Event, tick, measurement, hit, write, setBucket, assignBucket, setWeek, setWindows, halfPpm}
 use Rattle.rules.specs.Monitors.{Input, frequencyAfter, measured}
 use Rattle.rules.specs.Settings.{reject, qualification}
 use Rattle.rules.specs.Selection.{altered}
@@ -73,6 +73,8 @@ event-as-before s hit = refl
 event-as-before s (write a v) = refl
 event-as-before s (setBucket n size setLevel clearLevel d) = refl
 event-as-before s (assignBucket i n) = refl
+event-as-before s (setWeek place) = refl
+event-as-before s (setWindows windows) = refl
 
 history-as-before : HistoryAsBefore
 unfolding run coarseRun outcome
@@ -169,6 +171,8 @@ Narrow (event hit) = Unit {0}
 Narrow (event (write a v)) = Unit {0}
 Narrow (event (setBucket n size setLevel clearLevel d)) = Unit {0}
 Narrow (event (assignBucket i n)) = Unit {0}
+Narrow (event (setWeek place)) = Unit {0}
+Narrow (event (setWindows windows)) = Unit {0}
 Narrow bad = Unit {0}
 
 -- −k, for a k of 32,768 or less

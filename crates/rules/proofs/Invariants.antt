@@ -1,29 +1,30 @@
 -- What holds in every state that events lead to from a fresh unit.
-use Prim.Native.Nat.{ℕ, _+_, _-_, _≤_}
+use Prim.Native.Nat.{ℕ, _+_, _-_, _≤_, _<_}
 use mathlib.Core.Path.{_≡_, refl, sym, subst, _∙_}
 use mathlib.Core.Logic.{inl}
 use mathlib.Core.Bool.{Bool, true, false, not, _&&_, _||_, false≢true}
 use mathlib.Core.List.{List, [], _∷_}
 use native.Mathlib.Omega.{arith}
-use lib.Dec.{leb, eqb}
+use lib.Dec.{leb, ltb, eqb}
 use lib.IntN.{ℤ, natAbs}
 use lib.ListN.{getD-replicate}
-use borrow.Author.Tests.{eqb-true, eqb-false, leb-true, ltb-false, le-ltb, eq-eqb, ne-eqb, not-false}
+use borrow.Author.Tests.{eqb-true, eqb-false, leb-true, ltb-true, ltb-false, le-ltb, eq-eqb, ne-eqb, not-false}
 use Rattle.rules.specs.Words.{isInput, isTracked}
-use Rattle.rules.specs.Events.{Event, tick, measurement, hit, write, setBucket, assignBucket, sampleLimit}
+use Rattle.rules.specs.Events.{Event, tick, measurement, hit, write, setBucket, assignBucket, setWeek, setWindows, sampleLimit}
 use Rattle.rules.specs.Monitors.{unsoaked, freshInput}
 use Rattle.rules.specs.Pll.{Mode, freeRun, holdover, modeNumber, is}
 use Rattle.rules.specs.Settings.{Settings, reject, qualification}
+use Rattle.rules.specs.Week.{weekTicks, Week, freshWeek, advanced, ascending, startsWeek, windowsFit}
 use Rattle.rules.specs.Selection.{Inputs, settled, unselectedMode, unselectedLoop}
 use Rattle.rules.specs.Buckets.{bucketFrom, Buckets, startBucket, bucketOf}
 use Rattle.rules.specs.History.{History, freshHistory, held}
 use Rattle.rules.specs.State.{State, selected, Ready}
-use Rattle.rules.specs.Tick.{holdingLimit, holdingAfter, steps1to4, step5, ticked}
+use Rattle.rules.specs.Tick.{holdingLimit, holdingAfter, weekAfter, steps1to4, step5, ticked}
 use Rattle.rules.specs.Registers.{place, inMap, registers, register, readOnly, largest, stored, written, freshWith}
-use Rattle.rules.specs.Refusals.{limitsApart, limitsRefused, commandRefused, writeRefusal, refusal, accepted}
-use Rattle.rules.specs.Run.{afterMeasurement, afterHit, afterWrite, afterCall, afterSet, afterAssign, effect, next, run}
+use Rattle.rules.specs.Refusals.{limitsApart, limitsRefused, commandRefused, writeRefusal, weekRefusal, windowsRefusal, refusal, accepted}
+use Rattle.rules.specs.Run.{afterMeasurement, afterHit, afterWrite, afterCall, afterSet, afterAssign, afterWeek, effect, next, run}
 use Rattle.rules.specs.Loading.{freshFrom, Fresh}
-use Rattle.rules.specs.Laws.{SoundBuckets, SoundInputs, SoundSettings, SoundHistory, Lawful, Invariants, Saturation}
+use Rattle.rules.specs.Laws.{SoundBuckets, SoundInputs, SoundSettings, SoundHistory, SoundWeek, Lawful, Invariants, Saturation}
 use Rattle.rules.proofs.Tests.{if-case, by-test, clash, and-false, or-false, low, high, unrefused, zero-if}
 use Rattle.rules.proofs.Loading.{stored-le, sound-loaded}
 use Rattle.rules.proofs.OneInput.{works, sound-measured, sound-unsoaked, sound-fresh}
@@ -106,6 +107,14 @@ holding-zero : (before after : Mode) (n : ℕ) → (modeNumber after ≡ modeNum
 unfolding holdingAfter
 holding-zero before after n ne = rw (ne-eqb (modeNumber after) (modeNumber holdover) ne, and-false (is holdover before)) refl
 
+place-bound : (p : ℕ) → advanced p < weekTicks
+unfolding advanced
+place-bound p = if-case (λ n. n < weekTicks) (ltb (p + 1) weekTicks) (λ e. ltb-true (p + 1) weekTicks e) (λ e. omega arith)
+
+sound-advanced : (w : Week) → SoundWeek w → SoundWeek (weekAfter w)
+unfolding weekAfter
+sound-advanced w sound = record { place-lt = place-bound (w .place); fit = sound .fit }
+
 pub lawful-tick : (mask : ℕ) (lock : Bool) (x : ℤ) (s : State) → natAbs x ≤ sampleLimit → Lawful s → Lawful (ticked mask lock x s)
 unfolding ticked step5 steps1to4
 lawful-tick mask lock x s small w =
@@ -118,6 +127,7 @@ lawful-tick mask lock x s small w =
       last = λ e. last-recorded _ _ _ x (s .history) e;
       holding-le = holding-bound _ _ (s .holding);
       holding-none = holding-zero _ _ (s .holding);
+      week = sound-advanced (s .week) (w .week);
     }
 
 lawful-measurement : (i : ℕ) (x : ℤ) (s : State) → isInput i ≡ true → Lawful s → Lawful (afterMeasurement i x s)
@@ -132,6 +142,7 @@ lawful-measurement i x s r w =
       last = w .last;
       holding-le = w .holding-le;
       holding-none = w .holding-none;
+      week = w .week;
     }
 
 lawful-hit : (s : State) → isTracked (selected s) ≡ true → Lawful s → Lawful (afterHit s)
@@ -146,6 +157,7 @@ lawful-hit s r w =
       last = λ e. absurd (false≢true e);
       holding-le = omega arith;
       holding-none = λ e. refl;
+      week = w .week;
     }
 
 lawful-write : (a v : ℕ) (s : State) → WriteAllowed s a v → Lawful s → Lawful (afterWrite a v s)
@@ -160,6 +172,7 @@ lawful-write a v s ok w =
       last = λ t. if-case (λ (h : History). h .last ≡ selected s) (eqb a 0x26) (λ e. last-commanded v (s .history) ∙ w .last t) (λ e. w .last t);
       holding-le = w .holding-le;
       holding-none = w .holding-none;
+      week = w .week;
     }
   where
     small : eqb a 0x26 ≡ true → v ≤ 3
@@ -181,6 +194,7 @@ lawful-call bs inputs s sets sound w =
       last = w .last;
       holding-le = w .holding-le;
       holding-none = w .holding-none;
+      week = w .week;
     }
 
 lawful-set : (n size setLevel clearLevel d : ℕ) (s : State) → SetAllowed n size setLevel clearLevel d → Lawful s
@@ -196,8 +210,24 @@ lawful-assign i n s ok w =
     lawful-call _ _ s (sound-assigned i n (s .buckets) (ok .0) (w .buckets) (ok .1))
     (sound-after-assign (s .buckets) (s .inputs) (w .inputs) i n (ok .0) (ok .1) (w .buckets)) w
 
+-- a week that is sound
+lawful-week : (week : Week) (s : State) → SoundWeek week → Lawful s → Lawful (afterWeek week s)
+unfolding afterWeek
+lawful-week week s sound w =
+    record {
+      buckets = w .buckets;
+      inputs = w .inputs;
+      settings = w .settings;
+      loop = w .loop;
+      history = w .history;
+      last = w .last;
+      holding-le = w .holding-le;
+      holding-none = w .holding-none;
+      week = sound;
+    }
+
 pub lawful-next : (s : State) (e : Event) → Lawful s → Lawful (next s e)
-unfolding next effect refusal
+unfolding next effect refusal weekRefusal windowsRefusal
 lawful-next s (tick mask lock x) w =
     if-case Lawful (accepted s (tick mask lock x))
     (λ t. lawful-tick mask lock x s (leb-true (natAbs x) sampleLimit (zero-if (leb (natAbs x) sampleLimit) 6 t)) w) (λ t. w)
@@ -209,6 +239,12 @@ lawful-next s (setBucket n size setLevel clearLevel d) w =
     (λ t. lawful-set n size setLevel clearLevel d s (set-allowed n size setLevel clearLevel d (eqb-true _ 0 t)) w) (λ t. w)
 lawful-next s (assignBucket i n) w =
     if-case Lawful (accepted s (assignBucket i n)) (λ t. lawful-assign i n s (assign-allowed i n (eqb-true _ 0 t)) w) (λ t. w)
+lawful-next s (setWeek place) w =
+    if-case Lawful (accepted s (setWeek place))
+    (λ t. lawful-week _ s (record { place-lt = ltb-true place weekTicks (zero-if (ltb place weekTicks) 15 t); fit = w .week .fit }) w) (λ t. w)
+lawful-next s (setWindows windows) w =
+    if-case Lawful (accepted s (setWindows windows))
+    (λ t. lawful-week _ s (record { place-lt = w .week .place-lt; fit = zero-if (windowsFit windows) 15 t }) w) (λ t. w)
 
 pub lawful-run : (es : List Event) (s : State) → Lawful s → Lawful (run s es)
 unfolding run
@@ -219,7 +255,7 @@ lawful-run (e ∷ es) s w = lawful-run es (next s e) (lawful-next s e w)
 
 -- with settings that are sound
 lawful-with : (set : Settings) → SoundSettings set → Lawful (freshWith set)
-unfolding freshWith freshHistory settled modeNumber
+unfolding freshWith freshHistory freshWeek ascending startsWeek windowsFit settled modeNumber
 lawful-with set w =
     record {
       buckets = sound-fresh-buckets;
@@ -234,6 +270,7 @@ lawful-with set w =
       last = λ e. absurd (false≢true e);
       holding-le = omega arith;
       holding-none = λ e. refl;
+      week = record { place-lt = omega arith; fit = refl };
     }
 
 pub lawful-fresh : (start : State) → Fresh start → Lawful start

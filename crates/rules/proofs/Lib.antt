@@ -1,4 +1,4 @@
--- The laws of the rules, the promise of service and the comparison of #102, proved. Each file proves statements of specs/ or what they need.
+-- The laws of the rules, those of the busy hours, the promise of service and the comparisons of #102 and #106, proved. Each file proves statements of specs/ or what they need.
 pub mod Computing
 pub mod Avoided
 pub mod Tests
@@ -30,6 +30,8 @@ pub mod Printable
 pub mod ReadBack
 pub mod Refusals
 pub mod Laws
+pub mod Windows
+pub mod BusyHours
 pub mod Progress
 pub mod Promise
 pub mod Alike

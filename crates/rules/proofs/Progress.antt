@@ -10,15 +10,16 @@ use lib.IntN.{ℤ, natAbs, _+ℤ_}
 use lib.ListN.{length}
 use borrow.Author.Tests.{eqb-true, eqb-false, leb-true, leb-false, ltb-true, ltb-false, eq-eqb, ne-eqb}
 use Rattle.rules.specs.Words.{if_then_else_, bitOf, isInput, isTracked, isCounted}
-use Rattle.rules.specs.Events.{Event, tick, measurement, hit, write, setBucket, assignBucket, halfPpm, isTick}
+use Rattle.rules.specs.Events.{Event, tick, measurement, hit, write, setBucket, assignBucket, setWeek, setWindows, halfPpm, isTick}
 use Rattle.rules.specs.Monitors.{Bucket, Input, monitored, measured, unsoaked, lockAlarmed, qualified}
 use Rattle.rules.specs.Pll.{locked, is, modeNumber, Loop, lockTicks, looped, alarmDue}
 use Rattle.rules.specs.Settings.{Settings, policy, automatic, reject, qualification, priority, usable, revertive, ahead, reversion, opMode}
+use Rattle.rules.specs.Week.{advanced, longest}
 use Rattle.rules.specs.Selection.{Inputs, input, altered, Choice, available, candidate, settled, waitLimit, reselected, chosen, modeAfter, steered}
 use Rattle.rules.specs.Buckets.{bucketOf}
 use Rattle.rules.specs.History.{History, blockSamples, readyBlocks, refilled, saturated, filling, completed, sampled, withLast, noted, recorded}
-use Rattle.rules.specs.State.{State, selected, mode, Ready}
-use Rattle.rules.specs.Tick.{watched, watchedAfter, loopAfter, inputsAfter, steps1to4, step5, ticked}
+use Rattle.rules.specs.State.{State, selected, mode, Blocked, Ready}
+use Rattle.rules.specs.Tick.{watched, watchedAfter, loopAfter, inputsAfter, weekAfter, steps1to4, step5, ticked}
 use Rattle.rules.specs.Refusals.{refusal, accepted}
 use Rattle.rules.specs.Run.{afterMeasurement, afterHit, effect, next, run}
 use Rattle.rules.specs.Laws.{SoundBuckets, SoundInputs, Lawful}
@@ -30,6 +31,7 @@ use Rattle.rules.proofs.OneInput.{Calm, calm-tick, calm-qualified, calm
 use Rattle.rules.proofs.SoundBuckets.{bucket-works}
 use Rattle.rules.proofs.Best.{ahead-is, candidate-usable, best-is}
 use Rattle.rules.proofs.Chosen.{Waits, reselected-cases, wait-one, wait-more}
+use Rattle.rules.proofs.Windows.{blockedFor, blocked-longest, blocked-less}
 use Rattle.rules.proofs.Blocks.{joined, joined-length, completed-fills, completed-replaces, completed-ready}
 use Rattle.rules.proofs.Invariants.{lawful-next}
 use Rattle.rules.proofs.SoundLoop.{choiceAfter}
@@ -160,26 +162,35 @@ module _ (set : Settings) (rd : Bool) (r : ℕ) (p : Loop) (ref : isTracked r �
           by-test (leb (lockTicks - 1) (p .lockRun)) (λ t. fill (leb-true (lockTicks - 1) (p .lockRun) t) (inl (omega (arith, w .1))))
           (λ t. inl (omega (arith, run-is, w .0, leb-false (lockTicks - 1) (p .lockRun) t), omega (arith, w .0, leb-false (lockTicks - 1) (p .lockRun) t)))
 
--- ---- how far the unit is, k accepted ticks after the moment; q is the tick by which r is qualified, and n the reversion delay
+-- ---- how far the unit is, k accepted ticks after the moment; q is the tick by which r is qualified, n the reversion delay, and m the longest window
 
-pub data Phase (q n r k : ℕ) (c : Choice) (p : Loop) (h : History) : Type 0 where
+-- there is time to wait still, or a window blocks the switch: so many ticks are left of it, and they are over by tick q + n + m
+abbrev pub InTime : ℕ → ℕ → ℕ → ℕ → ℕ → Type 0
+InTime q n m left k = (k < q + n) ⊎ (left + suc k ≤ q + n + m)
+
+pub data Phase (q n m left r k : ℕ) (c : Choice) (p : Loop) (h : History) : Type 0 where
   -- r need not be qualified yet
-  early : k < q → Phase q n r k c p h
-  -- r is available; nothing is selected (a Hit), or another is and has waited for r since tick q
-  waits : q ≤ k → k < q + n → (c .selected ≡ 0) ⊎ ((k < c .wait + q) × (c .waitFor ≡ r)) → Phase q n r k c p h
+  early : k < q → Phase q n m left r k c p h
+  -- r is available; nothing is selected (a Hit), or another is and has waited for r since tick q, for n + 1 ticks at least if it could
+  waits : q ≤ k → InTime q n m left k → (c .selected ≡ 0) ⊎ ((min k (q + n) < c .wait + q) × (c .waitFor ≡ r)) → Phase q n m left r k c p h
   -- r is selected
-  serves : q ≤ k → c .selected ≡ r → Serving (k - (q + n)) p h → Phase q n r k c p h
+  serves : q ≤ k → c .selected ≡ r → Serving (k - (q + n + m)) p h → Phase q n m left r k c p h
+
+-- the ticks that are left of the window that the next tick lies in
+abbrev pub leftOf : State → ℕ
+leftOf s = blockedFor (s .week .windows) (s .week .place)
 
 abbrev pub phaseOf : ℕ → ℕ → ℕ → State → Type 0
-phaseOf n r k s = Phase (qualifyTicks (bucketOf (s .buckets) r)) n r k (s .choice) (s .loop) (s .history)
+phaseOf n r k s = Phase (qualifyTicks (bucketOf (s .buckets) r)) n (longest (s .week .windows)) (leftOf s) r k (s .choice) (s .loop) (s .history)
 
--- b is r's bucket at the moment
-pub record Going (b : Bucket) (n r k : ℕ) (s : State) : Type 0 where
+-- b is r's bucket at the moment, and m the longest window
+pub record Going (b : Bucket) (m n r k : ℕ) (s : State) : Type 0 where
   pub auto : automatic (s .settings) ≡ true
   pub prefer : Leading r (s .settings)
   pub wait-is : reversion (s .settings) ≡ n
   pub lawful : Lawful s
   pub bucket-is : bucketOf (s .buckets) r ≡ b
+  pub longest-is : longest (s .week .windows) ≡ m
   pub calm : Calm (bucketOf (s .buckets) r) k (input (s .inputs) r)
   pub phase : phaseOf n r k s
 
@@ -189,12 +200,12 @@ module _ (set : Settings) (inputs : Inputs) (r : ℕ) (ref : isInput r ≡ true)
   unfolding candidate available
   r-candidate = rw (ne-eqb r 9 (λ z. omega (arith, high 1 8 r ref)), ref, prefer .unmasked, qual) refl
 
-  chosen-is : (c : Choice) → chosen set inputs c ≡ reselected set inputs r c
+  chosen-is : (blocked : Bool) (c : Choice) → chosen blocked set inputs c ≡ reselected blocked set inputs r c
   unfolding chosen
-  chosen-is c = rw (auto, best-is set inputs r r-candidate (λ x e ne. prefer .leads x (candidate-usable set inputs x e) ne)) refl
+  chosen-is blocked c = rw (auto, best-is set inputs r r-candidate (λ x e ne. prefer .leads x (candidate-usable set inputs x e) ne)) refl
 
-  pub chosen-cases : (c : Choice) → (chosen set inputs c .selected ≡ r) ⊎ Waits (reversion set) r c (chosen set inputs c)
-  chosen-cases c = rw (chosen-is c) (reselected-cases set inputs r c (λ x e ne. prefer .reverts x (candidate-usable set inputs x e) ne))
+  pub chosen-cases : (blocked : Bool) (c : Choice) → (chosen blocked set inputs c .selected ≡ r) ⊎ Waits blocked (reversion set) r c (chosen blocked set inputs c)
+  chosen-cases blocked c = rw (chosen-is blocked c) (reselected-cases blocked set inputs r c (λ x e ne. prefer .reverts x (candidate-usable set inputs x e) ne))
 
 -- ---- a tick
 
@@ -222,27 +233,68 @@ calm-inputs k mask r lock s ref sets w c reg locks =
         tracked : isTracked (selected s) ≡ true
         tracked = and-left (isTracked (selected s)) (alarmDue (loopAfter lock s)) t
 
--- the phase after a tick, by the choice that it makes
-module _ (q n r k : ℕ) (c d : Choice) (p : Loop) (h : History) (short : c .wait < waitLimit) where
-  phase-first : suc k ≡ q → (d .selected ≡ r) ⊎ Waits n r c d → Phase q n r (suc k) d p h
+-- the phase after a tick, by the choice that it makes; `left` ticks are left of the window before it, and `left′` after it
+module _ (q n m left left′ r k : ℕ) (blocked : Bool) (c d : Choice) (p : Loop) (h : History)
+    (short : c .wait < waitLimit) (few : left ≤ m) (fewer : blocked ≡ true → left′ < left) where
+  -- r is not selected yet: there is time still, or the tick was blocked
+  in-time : Waits blocked n r c d → q ≤ suc k → InTime q n m left k → min (suc k) (q + n) < d .wait + q → InTime q n m left′ (suc k)
+  in-time w lo u waited =
+      by-test blocked (λ e. by-test (leb (q + n) (suc k)) (λ z. inr (late e (leb-true (q + n) (suc k) z) u)) (λ z. inl (leb-false (q + n) (suc k) z)))
+      (λ e. inl (omega (arith, waited, w .counts, w .within e)))
+    where
+      late : blocked ≡ true → q + n ≤ suc k → InTime q n m left k → left′ + suc (suc k) ≤ q + n + m
+      late e z (inl y) = omega (arith, fewer e)
+      late e z (inr y) = omega (arith, fewer e)
+
+  phase-first : suc k ≡ q → (d .selected ≡ r) ⊎ Waits blocked n r c d → Phase q n m left′ r (suc k) d p h
   phase-first e (inl t) = serves (omega arith) t (inl (omega arith, omega arith))
-  phase-first e (inr w) = waits (omega arith) (omega (arith, w .within, wait-one r c)) (inr (omega (arith, w .counts, wait-one r c), w .for))
+  phase-first e (inr w) = waits (omega arith) (in-time w (omega arith) (inl (omega arith)) one) (inr (one, w .for))
+    where
+      one : min (suc k) (q + n) < d .wait + q
+      one = omega (arith, w .counts, wait-one blocked n r c)
 
-  phase-waits : q ≤ k → k < q + n → (c .selected ≡ 0) ⊎ ((k < c .wait + q) × (c .waitFor ≡ r)) → (d .selected ≡ r) ⊎ Waits n r c d → Phase q n r (suc k) d p h
-  phase-waits lo hi u (inl t) = serves (omega arith) t (inl (omega arith, omega arith))
+  phase-waits : q ≤ k → InTime q n m left k → (c .selected ≡ 0) ⊎ ((min k (q + n) < c .wait + q) × (c .waitFor ≡ r)) → (d .selected ≡ r) ⊎ Waits blocked n r c d
+      → Phase q n m left′ r (suc k) d p h
+  phase-waits lo hi u (inl t) = serves (omega arith) t (inl (now hi))
+    where
+      now : InTime q n m left k → (suc k - (q + n + m) ≤ p .lockRun) × (suc k - (q + n + m) ≤ lockTicks - 1)
+      now (inl y) = (omega arith, omega arith)
+      now (inr y) = (omega arith, omega arith)
   phase-waits lo hi (inl z) (inr w) = absurd (w .some z)
-  phase-waits lo hi (inr z) (inr w) =
-      waits (omega arith) (omega (arith, z .0, wait-more r c short (z .1), w .within))
-      (inr (omega (arith, z .0, w .counts, wait-more r c short (z .1)), w .for))
+  phase-waits lo hi (inr z) (inr w) = waits (omega arith) (in-time w (omega arith) hi more) (inr (more, w .for))
+    where
+      more : min (suc k) (q + n) < d .wait + q
+      more = omega (arith, z .0, w .counts, wait-more blocked n r c short (z .1))
 
-going-tick : (b : Bucket) (n r k mask : ℕ) (lock : Bool) (x : ℤ) (s : State) → isInput r ≡ true → Going b n r k s → Lawful (ticked mask lock x s)
-    → bitOf mask r ≡ false → (selected s ≡ r → lock ≡ true) → Going b n r (suc k) (ticked mask lock x s)
-unfolding ticked step5 steps1to4 loopAfter
-going-tick b n r k mask lock x s ref g after reg locks =
-    record { auto = g .auto; prefer = g .prefer; wait-is = g .wait-is; lawful = after; bucket-is = g .bucket-is; calm = calm-after; phase = go (g .phase) }
+going-tick : (b : Bucket) (m n r k mask : ℕ) (lock : Bool) (x : ℤ) (s : State) → isInput r ≡ true → Going b m n r k s → Lawful (ticked mask lock x s)
+    → bitOf mask r ≡ false → (selected s ≡ r → lock ≡ true) → Going b m n r (suc k) (ticked mask lock x s)
+unfolding ticked step5 steps1to4 weekAfter loopAfter
+going-tick b m n r k mask lock x s ref g after reg locks =
+    record {
+      auto = g .auto;
+      prefer = g .prefer;
+      wait-is = g .wait-is;
+      lawful = after;
+      bucket-is = g .bucket-is;
+      longest-is = g .longest-is;
+      calm = calm-after;
+      phase = go (g .phase);
+    }
   where
     Q : ℕ
     Q = qualifyTicks (bucketOf (s .buckets) r)
+
+    M : ℕ
+    M = longest (s .week .windows)
+
+    left′ : ℕ
+    left′ = blockedFor (s .week .windows) (advanced (s .week .place))
+
+    few : leftOf s ≤ M
+    few = blocked-longest (s .week .windows) (s .week .place)
+
+    fewer : Blocked s ≡ true → left′ < leftOf s
+    fewer = blocked-less (s .week .windows) (g .lawful .week .fit) (s .week .place)
 
     I : Inputs
     I = inputsAfter mask lock s
@@ -259,39 +311,42 @@ going-tick b n r k mask lock x s ref g after reg locks =
     calm-after : Calm (bucketOf (s .buckets) r) (suc k) (input I r)
     calm-after = calm-inputs k mask r lock s ref (g .lawful .buckets) (g .lawful .inputs) (g .calm) reg locks
 
-    choice-made : Q ≤ suc k → (D .selected ≡ r) ⊎ Waits n r (s .choice) D
+    choice-made : Q ≤ suc k → (D .selected ≡ r) ⊎ Waits (Blocked s) n r (s .choice) D
     choice-made h =
-        subst (λ m. (D .selected ≡ r) ⊎ Waits m r (s .choice) D) (g .wait-is)
-        (chosen-cases (s .settings) I r ref (g .auto) (g .prefer) (calm-qualified (bucketOf (s .buckets) r) (bucket-works (s .buckets) (g .lawful .buckets) r ref) (suc k) (input I r) (after .inputs .each r ref) calm-after h) (s .choice))
+        subst (λ z. (D .selected ≡ r) ⊎ Waits (Blocked s) z r (s .choice) D) (g .wait-is)
+        (chosen-cases (s .settings) I r ref (g .auto) (g .prefer) (calm-qualified (bucketOf (s .buckets) r) (bucket-works (s .buckets) (g .lawful .buckets) r ref) (suc k) (input I r) (after .inputs .each r ref) calm-after h) (Blocked s) (s .choice))
 
     -- r was selected, and stays so
-    serve : Q ≤ k → selected s ≡ r → Serving (k - (Q + n)) (s .loop) (s .history) → (D .selected ≡ r) ⊎ Waits n r (s .choice) D → Phase Q n r (suc k) D L H
+    serve : Q ≤ k → selected s ≡ r → Serving (k - (Q + n + M)) (s .loop) (s .history) → (D .selected ≡ r) ⊎ Waits (Blocked s) n r (s .choice) D
+        → Phase Q n M left′ r (suc k) D L H
     serve lo e sv (inr w) = absurd (w .other e)
     serve lo e sv (inl t) =
         serves (omega arith) t
-        (serving-less (suc k - (Q + n)) (suc (k - (Q + n))) L H (omega arith)
-        (subst (λ m. Serving (suc (k - (Q + n))) L (recorded (policy (s .settings)) m (is locked (L .mode)) x (s .history))) (sym t)
-        (serving-tick (s .settings) (Ready s) r (s .loop) ref (k - (Q + n)) (policy (s .settings)) x (s .history) (g .auto)
+        (serving-less (suc k - (Q + n + M)) (suc (k - (Q + n + M))) L H (omega arith)
+        (subst (λ z. Serving (suc (k - (Q + n + M))) L (recorded (policy (s .settings)) z (is locked (L .mode)) x (s .history))) (sym t)
+        (serving-tick (s .settings) (Ready s) r (s .loop) ref (k - (Q + n + M)) (policy (s .settings)) x (s .history) (g .auto)
         (g .lawful .last (ap isTracked e ∙ ref) ∙ e) (g .lawful .history .open-lt) sv L here)))
       where
         here : L ≡ steered (automatic (s .settings)) (opMode (s .settings)) (Ready s) r r (looped true (s .loop))
         here = loop-same (s .settings) (Ready s) r (s .loop) ref (selected s) (D .selected) lock e t (locks e)
 
-    go : phaseOf n r k s → Phase Q n r (suc k) D L H
+    go : phaseOf n r k s → Phase Q n M left′ r (suc k) D L H
     go (early h) =
         by-test (leb Q (suc k))
-        (λ e. phase-first Q n r k (s .choice) D L H (g .lawful .loop .wait-lt) (omega (arith, leb-true Q (suc k) e)) (choice-made (leb-true Q (suc k) e)))
+        (λ e. phase-first Q n M (leftOf s) left′ r k (Blocked s) (s .choice) D L H (g .lawful .loop .wait-lt) few fewer (omega (arith, leb-true Q (suc k) e))
+        (choice-made (leb-true Q (suc k) e)))
         (λ e. early (leb-false Q (suc k) e))
-    go (waits lo hi u) = phase-waits Q n r k (s .choice) D L H (g .lawful .loop .wait-lt) lo hi u (choice-made (omega arith))
+    go (waits lo hi u) =
+        phase-waits Q n M (leftOf s) left′ r k (Blocked s) (s .choice) D L H (g .lawful .loop .wait-lt) few fewer lo hi u (choice-made (omega arith))
     go (serves lo e sv) = serve lo e sv (choice-made (omega arith))
 
 -- ---- the other events
 
-going-measurement : (b : Bucket) (n r k i : ℕ) (x : ℤ) (s : State) → isInput r ≡ true → isInput i ≡ true → Going b n r k s → Lawful (afterMeasurement i x s)
-    → (i ≡ r → natAbs x ≤ halfPpm * qualification (s .settings)) → Going b n r k (afterMeasurement i x s)
+going-measurement : (b : Bucket) (m n r k i : ℕ) (x : ℤ) (s : State) → isInput r ≡ true → isInput i ≡ true → Going b m n r k s → Lawful (afterMeasurement i x s)
+    → (i ≡ r → natAbs x ≤ halfPpm * qualification (s .settings)) → Going b m n r k (afterMeasurement i x s)
 unfolding afterMeasurement
-going-measurement b n r k i x s ref ri g after small =
-    record { auto = g .auto; prefer = g .prefer; wait-is = g .wait-is; lawful = after; bucket-is = g .bucket-is; calm = by-test (eqb i r) same other-input; phase = g .phase }
+going-measurement b m n r k i x s ref ri g after small =
+    record { auto = g .auto; prefer = g .prefer; wait-is = g .wait-is; lawful = after; bucket-is = g .bucket-is; longest-is = g .longest-is; calm = by-test (eqb i r) same other-input; phase = g .phase }
   where
     f : Input → Input
     f = measured (halfPpm * reject (s .settings)) (halfPpm * qualification (s .settings)) x
@@ -305,16 +360,17 @@ going-measurement b n r k i x s ref ri g after small =
     other-input : eqb i r ≡ false → Calm (bucketOf (s .buckets) r) k (input (altered f i (s .inputs)) r)
     other-input e = rw (input-altered-other f i r (s .inputs) (low 1 8 i ri) (low 1 8 r ref) (eqb-false i r e)) (g .calm)
 
-going-hit : (b : Bucket) (n r k : ℕ) (s : State) → isInput r ≡ true → isTracked (selected s) ≡ true → Going b n r k s → Lawful (afterHit s)
-    → (selected s ≡ r → ⊥) → Going b n r k (afterHit s)
+going-hit : (b : Bucket) (m n r k : ℕ) (s : State) → isInput r ≡ true → isTracked (selected s) ≡ true → Going b m n r k s → Lawful (afterHit s)
+    → (selected s ≡ r → ⊥) → Going b m n r k (afterHit s)
 unfolding afterHit settled
-going-hit b n r k s ref rs g after ne =
+going-hit b m n r k s ref rs g after ne =
     record {
       auto = g .auto;
       prefer = g .prefer;
       wait-is = g .wait-is;
       lawful = after;
       bucket-is = g .bucket-is;
+      longest-is = g .longest-is;
       calm = rw (input-altered-other unsoaked (selected s) r (s .inputs) (low 1 8 (selected s) rs) (low 1 8 r ref) ne) (g .calm);
       phase = go (g .phase);
     }
@@ -326,38 +382,40 @@ going-hit b n r k s ref rs g after ne =
 
 -- ---- a fair event, and a list of them
 
-module _ (b : Bucket) (n r : ℕ) (ref : isInput r ≡ true) where
-  still : (k : ℕ) (s : State) → Going b n r k s → Going b n r (0 + k) s
-  still k s g = subst (λ (m : ℕ). Going b n r m s) (omega arith) g
+module _ (b : Bucket) (m n r : ℕ) (ref : isInput r ≡ true) where
+  still : (k : ℕ) (s : State) → Going b m n r k s → Going b m n r (0 + k) s
+  still k s g = subst (λ (j : ℕ). Going b m n r j s) (omega arith) g
 
   -- an event that is no tick, accepted or not
-  other-event : (k : ℕ) (y : Bool) (s t : State) → (y ≡ true → Lawful t → Going b n r k t) → Going b n r k s
-      → Lawful (if y then t else s) → Going b n r (0 + k) (if y then t else s)
+  other-event : (k : ℕ) (y : Bool) (s t : State) → (y ≡ true → Lawful t → Going b m n r k t) → Going b m n r k s
+      → Lawful (if y then t else s) → Going b m n r (0 + k) (if y then t else s)
   other-event k true s t f g after = still k t (f refl after)
   other-event k false s t f g after = still k s g
 
-  going-next : (k : ℕ) (s : State) (e : Event) → Fair r s e → Going b n r k s → Lawful (next s e)
-      → Going b n r ((if isTick e && accepted s e then 1 else 0) + k) (next s e)
+  going-next : (k : ℕ) (s : State) (e : Event) → Fair r s e → Going b m n r k s → Lawful (next s e)
+      → Going b m n r ((if isTick e && accepted s e then 1 else 0) + k) (next s e)
   unfolding next effect refusal
   going-next k s (tick mask lock x) fair g = go (accepted s (tick mask lock x)) refl
     where
       go : (y : Bool) → accepted s (tick mask lock x) ≡ y → Lawful (if y then ticked mask lock x s else s)
-          → Going b n r ((if y then 1 else 0) + k) (if y then ticked mask lock x s else s)
+          → Going b m n r ((if y then 1 else 0) + k) (if y then ticked mask lock x s else s)
       go true e after =
-          subst (λ (m : ℕ). Going b n r m (ticked mask lock x s)) (omega arith) (going-tick b n r k mask lock x s ref g after (fair e .0) (fair e .1))
+          subst (λ (j : ℕ). Going b m n r j (ticked mask lock x s)) (omega arith) (going-tick b m n r k mask lock x s ref g after (fair e .0) (fair e .1))
       go false e after = still k s g
   going-next k s (measurement i x) fair g =
       other-event k (accepted s (measurement i x)) s (afterMeasurement i x s)
-      (λ e after. going-measurement b n r k i x s ref (zero-if (isInput i) 5 e) g after fair) g
+      (λ e after. going-measurement b m n r k i x s ref (zero-if (isInput i) 5 e) g after fair) g
   going-next k s hit fair g =
-      other-event k (accepted s hit) s (afterHit s) (λ e after. going-hit b n r k s ref (zero-if (isTracked (selected s)) 4 e) g after fair) g
+      other-event k (accepted s hit) s (afterHit s) (λ e after. going-hit b m n r k s ref (zero-if (isTracked (selected s)) 4 e) g after fair) g
   going-next k s (write a v) fair g = λ after. rw fair (still k s g)
-  going-next k s (setBucket m size setLevel clearLevel d) fair g = λ after. rw fair (still k s g)
-  going-next k s (assignBucket i m) fair g = λ after. rw fair (still k s g)
+  going-next k s (setBucket j size setLevel clearLevel d) fair g = λ after. rw fair (still k s g)
+  going-next k s (assignBucket i j) fair g = λ after. rw fair (still k s g)
+  going-next k s (setWeek place) fair g = λ after. rw fair (still k s g)
+  going-next k s (setWindows windows) fair g = λ after. rw fair (still k s g)
 
-  pub going-run : (es : List Event) (k : ℕ) (s : State) → AllFair r s es → Going b n r k s → Going b n r (acceptedTicks s es + k) (run s es)
+  pub going-run : (es : List Event) (k : ℕ) (s : State) → AllFair r s es → Going b m n r k s → Going b m n r (acceptedTicks s es + k) (run s es)
   unfolding run acceptedTicks
   going-run [] k s fair g = still k s g
   going-run (e ∷ es) k s fair g =
-      subst (λ (m : ℕ). Going b n r m (run (next s e) es)) (omega arith)
+      subst (λ (j : ℕ). Going b m n r j (run (next s e) es)) (omega arith)
       (going-run es ((if isTick e && accepted s e then 1 else 0) + k) (next s e) (fair .1) (going-next k s e (fair .0) g (lawful-next s e (g .lawful))))

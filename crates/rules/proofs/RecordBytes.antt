@@ -9,7 +9,7 @@ use lib.IntN.{natAbs}
 use lib.ListN.{length, drop}
 use borrow.Author.Tests.{eq-eqb}
 use Rattle.rules.specs.Words.{isInput, isTracked}
-use Rattle.rules.specs.Events.{Event, tick, measurement, hit, write, setBucket, assignBucket, isCall, sampleLimit}
+use Rattle.rules.specs.Events.{Event, tick, measurement, hit, write, setBucket, assignBucket, setWeek, setWindows, isCall, sampleLimit}
 use Rattle.rules.specs.State.{State, selected, Ready}
 use Rattle.rules.specs.History.{held}
 use Rattle.rules.specs.Registers.{inMap, readOnly, largest, fresh}
@@ -36,6 +36,8 @@ refusal-le s (write a v) p =
     (if-le (eqb a 0x26 && commandRefused (Ready s) (held (s .history .backup)) v) (omega arith) (omega arith)))))
 refusal-le s (setBucket n size setLevel clearLevel d) p = absurd (true≢false p)
 refusal-le s (assignBucket i n) p = absurd (true≢false p)
+refusal-le s (setWeek place) p = absurd (true≢false p)
+refusal-le s (setWindows windows) p = absurd (true≢false p)
 
 first-bytes : (s : State) (e : Event) (rest : List ℕ) → isCall e ≡ false → RecordBytes (recordOf (outcome s e) ++ rest)
 unfolding outcome

@@ -79,8 +79,9 @@ records-promise sheet room before after later e rest r zero events p =
     let bytes = record-is (refusal (run fresh xs) e) now in
     let same = state-after before after later e in
     let plain = callless-front before (after ++ later) (callless-front xs (e ∷ rest) (subst Callless events (no-calls sheet))) in
-    let start : bucketOf (run fresh before .buckets) r ≡ startBucket = rw (untouched fresh (standard .is-fresh) before plain) (start-bucket r) in
-    let served = promise-at-start fresh (standard .is-fresh) before after (later ++ (e ∷ [])) r (reversion (run fresh before .settings)) start (delays (delay (run fresh before .settings))) p in
+    let set = untouched fresh (standard .is-fresh) before plain in
+    let start : bucketOf (run fresh before .buckets) r ≡ startBucket = rw (set .0) (start-bucket r) in
+    let served = promise-at-start fresh (standard .is-fresh) before after (later ++ (e ∷ [])) r (reversion (run fresh before .settings)) (set .1) start (delays (delay (run fresh before .settings))) p in
     let state = bytes-are sheet room xs e rest 1 zero events ∙ ap (λ (l : List ℕ). getD (l ++ records now rest) 1 0) bytes in
     let status = bytes-are sheet room xs e rest 3 zero events ∙ ap (λ (l : List ℕ). getD (l ++ records now rest) 3 0) bytes in
     record {

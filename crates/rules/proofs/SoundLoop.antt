@@ -10,8 +10,8 @@ use Rattle.rules.specs.Words.{isTracked}
 use Rattle.rules.specs.Monitors.{qualified, lockAlarmed}
 use Rattle.rules.specs.Pll.{Mode, freeRun, locked, modeNumber, is, unlocked, Loop, lockTicks, unlockTicks, looped, alarmDue}
 use Rattle.rules.specs.Settings.{Settings, automatic, opMode, delayTicks, reversion}
-use Rattle.rules.specs.Selection.{Inputs, input, Choice, candidate, best, settled, waitLimit, waitAfter, switches, chosen, unselectedMode, modeAfter, steered}
-use Rattle.rules.specs.State.{State, selected, mode, Ready}
+use Rattle.rules.specs.Selection.{Inputs, input, Choice, candidate, best, settled, waitLimit, waitAfter, chosen, unselectedMode, modeAfter, steered}
+use Rattle.rules.specs.State.{State, selected, mode, Blocked, Ready}
 use Rattle.rules.specs.Tick.{watchedAfter, loopAfter, inputsAfter}
 use Rattle.rules.specs.Registers.{place, registers, register, largest}
 use Rattle.rules.specs.Run.{next}
@@ -19,12 +19,12 @@ use Rattle.rules.specs.Laws.{SoundBuckets, Selectable, SoundInputs, Soun
 use Rattle.rules.proofs.Tests.{if-case, by-test, clash, or-true, low, high, is-between}
 use Rattle.rules.proofs.EightInputs.{input-altered-same}
 use Rattle.rules.proofs.Best.{candidate-number}
-use Rattle.rules.proofs.Chosen.{waiting, chosen-case, settles-selectable, chosen-selectable, manual-none, selectable-le, wait-one}
+use Rattle.rules.proofs.Chosen.{waiting, goes, chosen-case, settles-selectable, chosen-selectable, manual-none, selectable-le, wait-one, wait-bound}
 use Rattle.rules.proofs.SoundInputs.{sound-watched}
 
 -- ---- the choice
 
-delay-bound : (m : ℕ) → m ≤ 255 → delayTicks m < waitLimit
+delay-bound : (m : ℕ) → m ≤ 255 → delayTicks m + 1 < waitLimit
 unfolding delayTicks
 delay-bound m h = omega arith
 
@@ -43,10 +43,10 @@ sound-settled : (x : ℕ) → x ≤ 9 → SoundChoice (settled x)
 unfolding settled
 sound-settled x h = record { selected-le = h; wait-lt = omega arith; unselected = λ e. refl; unwaited = λ e. refl }
 
-pub sound-chosen : (set : Settings) (inputs : Inputs) (c : Choice) → SoundSettings set → c .selected ≤ 9 → SoundChoice (chosen set inputs c)
-unfolding switches
-sound-chosen set inputs c w h =
-    chosen-case set inputs c SoundChoice (λ x s. sound-settled x (selectable-le inputs x (settles-selectable set inputs x s))) (λ a e n. wait e n)
+pub sound-chosen : (blocked : Bool) (set : Settings) (inputs : Inputs) (c : Choice) → SoundSettings set → c .selected ≤ 9 → c .wait < waitLimit
+    → SoundChoice (chosen blocked set inputs c)
+sound-chosen blocked set inputs c w h l =
+    chosen-case blocked set inputs c SoundChoice (λ x s. sound-settled x (selectable-le inputs x (settles-selectable blocked set inputs x s))) (λ a e n. wait e n)
   where
     b : ℕ
     b = best set inputs
@@ -54,17 +54,14 @@ sound-chosen set inputs c w h =
     some : 1 ≤ c .selected → c .selected ≡ 0 → ⊥
     some l z = omega arith
 
-    rising : waitAfter b c ≡ 0 → ⊥
-    rising z = omega (arith, wait-one b c)
+    rising : waitAfter blocked (reversion set) b c ≡ 0 → ⊥
+    rising z = omega (arith, wait-one blocked (reversion set) b c)
 
-    short : switches (reversion set) (waitAfter b c) ≡ false → waitAfter b c < waitLimit
-    short n = omega (arith, leb-false (reversion set) (waitAfter b c - 1) n, delay-bound (set 0x43) (delay-byte set w))
-
-    wait : candidate set inputs (c .selected) ≡ true → switches (reversion set) (waitAfter b c) ≡ false → SoundChoice (waiting b c)
+    wait : candidate set inputs (c .selected) ≡ true → goes blocked (reversion set) b c ≡ false → SoundChoice (waiting blocked (reversion set) b c)
     wait e n =
         record {
           selected-le = h;
-          wait-lt = short n;
+          wait-lt = wait-bound blocked (reversion set) b c (delay-bound (set 0x43) (delay-byte set w)) l n;
           unselected = λ z. absurd (some (candidate-number set inputs (c .selected) e .0) z);
           unwaited = λ z. absurd (rising z);
         }
@@ -129,11 +126,11 @@ untracked c h t =
 
 -- the choice of a tick
 abbrev pub choiceAfter : ℕ → Bool → State → Choice
-choiceAfter mask lock s = chosen (s .settings) (inputsAfter mask lock s) (s .choice)
+choiceAfter mask lock s = chosen (Blocked s) (s .settings) (inputsAfter mask lock s) (s .choice)
 
 module _ (mask : ℕ) (lock : Bool) (s : State) (w : Lawful s) where
   selectable : Selectable (inputsAfter mask lock s) (choiceAfter mask lock s .selected)
-  selectable = chosen-selectable (s .settings) (inputsAfter mask lock s) (s .choice)
+  selectable = chosen-selectable (Blocked s) (s .settings) (inputsAfter mask lock s) (s .choice)
 
   run-lock : loopAfter lock s .lockRun ≤ lockTicks
   unfolding loopAfter
@@ -172,12 +169,12 @@ module _ (mask : ℕ) (lock : Bool) (s : State) (w : Lawful s) where
       N = choiceAfter mask lock s .selected
 
       sound : SoundChoice (choiceAfter mask lock s)
-      sound = sound-chosen (s .settings) (inputsAfter mask lock s) (s .choice) (w .settings) (w .loop .selected-le)
+      sound = sound-chosen (Blocked s) (s .settings) (inputsAfter mask lock s) (s .choice) (w .settings) (w .loop .selected-le) (w .loop .wait-lt)
 
       on : isTracked N ≡ true → (not (automatic (s .settings)) && eqb (opMode (s .settings)) 0) ≡ false
       on t =
           by-test (not (automatic (s .settings)) && eqb (opMode (s .settings)) 0)
-          (λ e. absurd (zero-no (low 1 8 N t) (manual-none (s .settings) (inputsAfter mask lock s) (s .choice) e))) (λ e. e)
+          (λ e. absurd (zero-no (low 1 8 N t) (manual-none (Blocked s) (s .settings) (inputsAfter mask lock s) (s .choice) e))) (λ e. e)
         where
           zero-no : 1 ≤ N → N ≡ 0 → ⊥
           zero-no l z = omega arith

@@ -9,12 +9,12 @@ use lib.IntN.{ℤ}
 use lib.ListN.{length}
 use borrow.Author.Tests.{eqb-true, leb-true, le-leb}
 use Rattle.rules.specs.Words.{if_then_else_, isCounted}
-use Rattle.rules.specs.Events.{Event, tick, measurement, hit, write, setBucket, assignBucket}
+use Rattle.rules.specs.Events.{Event, tick, measurement, hit, write, setBucket, assignBucket, setWeek, setWindows}
 use Rattle.rules.specs.History.{History, readyBlocks, ready, withBlocks, openEmptied, startsBuilding, withLast, noted, recorded, backedUp, replaced, withCommand, commanded}
 use Rattle.rules.specs.State.{State, Ready}
 use Rattle.rules.specs.Tick.{steps1to4, step5, ticked}
 use Rattle.rules.specs.Refusals.{accepted}
-use Rattle.rules.specs.Run.{afterMeasurement, afterHit, afterWrite, afterCall, afterSet, afterAssign, effect, next, run}
+use Rattle.rules.specs.Run.{afterMeasurement, afterHit, afterWrite, afterCall, afterSet, afterAssign, afterWeek, effect, next, run}
 use Rattle.rules.specs.Laws.{SoundHistory}
 use Rattle.rules.specs.Comparison.{EndsByCommand3}
 use Rattle.rules.proofs.Tests.{if-case, clash}
@@ -49,7 +49,7 @@ Stands : State → Event → Type 0
 Stands s e = (readyBlocks ≤ length (next s e .history .kept)) ⊎ ((e ≡ write 0x26 3) × (accepted s e ≡ true))
 
 stands : (s : State) (e : Event) → SoundHistory (s .history) → readyBlocks ≤ length (s .history .kept) → Stands s e
-unfolding Stands next effect ticked step5 steps1to4 afterMeasurement afterHit afterWrite afterCall afterSet afterAssign openEmptied withBlocks
+unfolding Stands next effect ticked step5 steps1to4 afterMeasurement afterHit afterWrite afterCall afterSet afterAssign afterWeek openEmptied withBlocks
 stands s (tick mask lock x) w k =
     inl (if-case (λ (z : State). readyBlocks ≤ length (z .history .kept)) (accepted s (tick mask lock x)) (λ e. recorded-ready _ _ _ x (s .history) k) (λ e. k))
 stands s (measurement i x) w k = inl (if-case (λ (z : State). readyBlocks ≤ length (z .history .kept)) (accepted s (measurement i x)) (λ e. k) (λ e. k))
@@ -57,6 +57,8 @@ stands s hit w k = inl (if-case (λ (z : State). readyBlocks ≤ length (z .hist
 stands s (setBucket n size setLevel clearLevel d) w k =
     inl (if-case (λ (z : State). readyBlocks ≤ length (z .history .kept)) (accepted s (setBucket n size setLevel clearLevel d)) (λ e. k) (λ e. k))
 stands s (assignBucket i n) w k = inl (if-case (λ (z : State). readyBlocks ≤ length (z .history .kept)) (accepted s (assignBucket i n)) (λ e. k) (λ e. k))
+stands s (setWeek place) w k = inl (if-case (λ (z : State). readyBlocks ≤ length (z .history .kept)) (accepted s (setWeek place)) (λ e. k) (λ e. k))
+stands s (setWindows windows) w k = inl (if-case (λ (z : State). readyBlocks ≤ length (z .history .kept)) (accepted s (setWindows windows)) (λ e. k) (λ e. k))
 stands s (write a v) w k = if-case Or (accepted s (write a v)) (λ e. yes e (eqb a 0x26) refl) (λ e. inl k)
   where
     Or : State → Type 0

@@ -1,5 +1,5 @@
 -- The traps of document 01 and the cheap programs of "Every result is settled", avoided, and a few more wrong
--- rules, those of requests #102, #104, #105 and #106 among them: for each a small case in which the rules give something else.
+-- rules, those of requests #102 and #104 to #107 among them: for each a small case in which the rules give something else.
 -- A run is from the standard fresh unit, or from a unit that is written down: one history is enough to tell a wrong rule.
 use Prim.Native.Nat.{ℕ}
 use mathlib.Core.Bool.{Bool, true, false}
@@ -7,10 +7,11 @@ use mathlib.Core.List.{List, [], _∷_, _++_}
 use lib.IntN.{pos, negsuc}
 use lib.ListN.{length, replicate, set, take}
 use Rattle.rules.specs.Words.{if_then_else_}
-use Rattle.rules.specs.Events.{Event, tick, measurement, oldKind, hit, write, setBucket, assignBucket}
+use Rattle.rules.specs.Events.{Event, tick, measurement, oldKind, hit, write, setBucket, assignBucket, setWeek, setWindows}
 use Rattle.rules.specs.Monitors.{Activity, Input, measured, fullSoak, freshInput}
 use Rattle.rules.specs.Pll.{holdover, preLocked}
 use Rattle.rules.specs.Settings.{Settings}
+use Rattle.rules.specs.Week.{Window, advanced}
 use Rattle.rules.specs.Selection.{Inputs, input, Choice, settled, chosen, waitAfter, switches}
 use Rattle.rules.specs.History.{History, ready, withBlocks, completed, noted, value, replaced, commanded, freshHistory}
 use Rattle.rules.specs.State.{State, selected}
@@ -18,7 +19,7 @@ use Rattle.rules.specs.Tick.{holdingAfter}
 use Rattle.rules.specs.Registers.{place, written, freshTable, fresh}
 use Rattle.rules.specs.Reading.{stateByte, read}
 use Rattle.rules.specs.Refusals.{refusal}
-use Rattle.rules.specs.Run.{next, run}
+use Rattle.rules.specs.Run.{withInputs, next, run}
 use Rattle.rules.specs.Loading.{loads, freshFrom, loading}
 use Rattle.rules.specs.Sheet.{event, bad, fields, decode, check}
 use Rattle.rules.specs.Printout.{ascii, decimal, hexadecimal}
@@ -46,7 +47,7 @@ waiting = record { selected = 3; wait = 3; waitFor = 2 }
 -- a fresh unit with these inputs and settings
 abbrev unit : Settings → Inputs → State
 unit set inputs =
-    record { inputs = inputs; buckets = fresh .buckets; settings = set; loop = fresh .loop; choice = fresh .choice; history = fresh .history; holding = fresh .holding }
+    record { inputs = inputs; buckets = fresh .buckets; settings = set; loop = fresh .loop; choice = fresh .choice; history = fresh .history; holding = fresh .holding; week = fresh .week }
 
 -- in Holdover for so many ticks
 abbrev inHoldover : ℕ → State
@@ -59,6 +60,7 @@ inHoldover n =
       choice = fresh .choice;
       history = fresh .history;
       holding = n;
+      week = fresh .week;
     }
 
 -- so many blocks in use, with a mean of 0, and so many building, with a mean of 1; the last reference is none
@@ -87,6 +89,16 @@ wasSet e = input (next fresh e .inputs) 1 .frequency
 abbrev wasClear : Event → Bool
 wasClear e = input (next (unit (fresh .settings) (clocks true true true)) e .inputs) 1 .frequency
 
+-- a window, by its first tick and its end
+abbrev window : ℕ → ℕ → Window
+window start end = record { start = start; end = end }
+
+-- 2 is selected and revertive, 1 is better, and there is no delay: what is selected after a tick at this place, with a window of the places 4 and 5
+abbrev afterTick : ℕ → ℕ
+afterTick place =
+    let start = run (unit (setting 0 0 0b1000) (clocks false true false)) (tick 0 false (pos 0) ∷ setWindows (window 4 6 ∷ []) ∷ setWeek place ∷ []) in
+    selected (next (withInputs (clocks true true false) start) (tick 0 false (pos 0)))
+
 -- ---- the table
 
 unfoldable pub table : List Row
@@ -96,29 +108,29 @@ table =
     -- "rounding the mean toward zero"
     ∷ value (replaced (negsuc 0 ∷ pos 0 ∷ []) freshHistory) is negsuc 0
     -- "reading bit 3 of the candidate, not of the selected": 1 is best, and revertive; 2 is selected, and not. Then the other way round.
-    ∷ chosen (setting 0 0b1000 0b0001) (clocks true true false) (settled 2) .selected is 2
-    ∷ chosen (setting 0 0b0000 0b1001) (clocks true true false) (settled 2) .selected is 1
+    ∷ chosen false (setting 0 0b1000 0b0001) (clocks true true false) (settled 2) .selected is 2
+    ∷ chosen false (setting 0 0b0000 0b1001) (clocks true true false) (settled 2) .selected is 1
     -- "equal priority taken as no reversion"
-    ∷ chosen (setting 0 0b0000 0b1000) (clocks true true false) (settled 2) .selected is 1
+    ∷ chosen false (setting 0 0b0000 0b1000) (clocks true true false) (settled 2) .selected is 1
     -- "carrying the wait over to another candidate"
-    ∷ waitAfter 2 waiting is 4
-    ∷ waitAfter 1 waiting is 1
+    ∷ waitAfter false 9 2 waiting is 4
+    ∷ waitAfter false 9 1 waiting is 1
     -- the switch "comes when wait − 1 is n or more"
     ∷ switches 3 3 is false
     ∷ switches 3 4 is true
     -- "one that never reselects": 2 is lost
-    ∷ chosen (setting 0 0 0) (clocks false false true) (settled 2) .selected is 3
-    ∷ chosen (setting 0 0 0) (clocks false false false) (settled 2) .selected is 0
+    ∷ chosen false (setting 0 0 0) (clocks false false true) (settled 2) .selected is 3
+    ∷ chosen false (setting 0 0 0) (clocks false false false) (settled 2) .selected is 0
     -- "one fixed on input 1"
-    ∷ chosen (setting 0 0 0) (clocks false true false) (settled 0) .selected is 2
+    ∷ chosen false (setting 0 0 0) (clocks false true false) (settled 0) .selected is 2
     -- "one that settles at the first tick and only copies its record later": 1 is selected, and lost by a Hit
     ∷ stateByte (run (unit (setting 0 0 0) (clocks true false false)) (tick 0 false (pos 0) ∷ [])) is 0x21
     ∷ stateByte (run (unit (setting 0 0 0) (clocks true false false)) (tick 0 false (pos 0) ∷ hit ∷ [])) is 0x00
     -- "one that takes the best unmasked input unjudged"
-    ∷ chosen (setting 0 0 0) (clocks false false false) (settled 0) .selected is 0
+    ∷ chosen false (setting 0 0 0) (clocks false false false) (settled 0) .selected is 0
     -- manual: "selects s if qualified, masked or not, else 0"
-    ∷ chosen (written 0x41 2 (written 0x42 0 (fresh .settings))) (clocks true true false) (settled 1) .selected is 2
-    ∷ chosen (written 0x41 3 (fresh .settings)) (clocks true true false) (settled 1) .selected is 0
+    ∷ chosen false (written 0x41 2 (written 0x42 0 (fresh .settings))) (clocks true true false) (settled 1) .selected is 2
+    ∷ chosen false (written 0x41 3 (fresh .settings)) (clocks true true false) (settled 1) .selected is 0
     -- "one that refuses each event"
     ∷ refusal fresh (tick 0 false (pos 0)) is 0
     ∷ refusal fresh (write 0x40 1) is 0
@@ -233,5 +245,52 @@ readings =
     ∷ fields 5 3 0 (pos 0) is bad
     ∷ []
 
+-- ---- the table of busy hours, #107
+
+unfoldable pub hours : List Row
+hours =
+    -- a place past the week's end, nine windows, an empty one, or one past the week's end let through; those at the bounds refused
+    refusal fresh (setWeek 4_725_000) is 16
+    ∷ refusal fresh (setWeek 4_724_999) is 0
+    ∷ refusal fresh (setWindows (replicate 9 (window 1 2))) is 16
+    ∷ refusal fresh (setWindows (window 0 1 ∷ window 2 3 ∷ window 4 5 ∷ window 6 7 ∷ window 8 9 ∷ window 10 11 ∷ window 12 13 ∷ window 14 15 ∷ [])) is 0
+    ∷ refusal fresh (setWindows (window 5 5 ∷ [])) is 16
+    ∷ refusal fresh (setWindows (window 5 6 ∷ [])) is 0
+    ∷ refusal fresh (setWindows (window 5 4_725_001 ∷ [])) is 16
+    ∷ refusal fresh (setWindows (window 1 4_725_000 ∷ [])) is 0
+    ∷ refusal fresh (setWindows []) is 0
+    -- windows that touch, that overlap or that descend; a first at 0 with a last that ends the week, which may be one and the same
+    ∷ refusal fresh (setWindows (window 0 5 ∷ window 5 6 ∷ [])) is 16
+    ∷ refusal fresh (setWindows (window 0 5 ∷ window 6 7 ∷ [])) is 0
+    ∷ refusal fresh (setWindows (window 6 7 ∷ window 0 5 ∷ [])) is 16
+    ∷ refusal fresh (setWindows (window 0 1 ∷ window 4_724_999 4_725_000 ∷ [])) is 16
+    ∷ refusal fresh (setWindows (window 0 4_725_000 ∷ [])) is 16
+    ∷ refusal fresh (setWindows (window 0 1 ∷ window 4_724_998 4_724_999 ∷ [])) is 0
+    ∷ refusal fresh (setWindows (window 1 2 ∷ window 4_724_999 4_725_000 ∷ [])) is 0
+    -- a call that changes the other's part; one that is turned down and stores
+    ∷ run fresh (setWindows (window 1 2 ∷ []) ∷ setWeek 7 ∷ []) .week is record { place = 7; windows = window 1 2 ∷ [] }
+    ∷ run fresh (setWeek 7 ∷ setWindows (window 1 2 ∷ []) ∷ []) .week is record { place = 7; windows = window 1 2 ∷ [] }
+    ∷ run fresh (setWeek 7 ∷ setWeek 4_725_000 ∷ setWindows (window 2 2 ∷ []) ∷ []) .week is record { place = 7; windows = [] }
+    -- a place that goes past the week's end, or returns too early; a refused tick that advances it, or a Hit
+    ∷ advanced 4_724_999 is 0
+    ∷ advanced 4_724_998 is 4_724_999
+    ∷ run fresh (tick 0 false (pos 125_000_001) ∷ hit ∷ write 0x40 1 ∷ []) .week .place is 0
+    -- a start that lets through, an end that blocks; a place that advances before the selection
+    ∷ afterTick 4 is 2
+    ∷ afterTick 5 is 2
+    ∷ afterTick 3 is 1
+    ∷ afterTick 6 is 1
+    -- a window that blocks a lost reference, or a manual choice; one that lets Free Run through
+    ∷ chosen true (setting 0 0 0b1000) (clocks true false false) (settled 2) .selected is 1
+    ∷ chosen true (written 0x41 1 (fresh .settings)) (clocks true true false) (settled 2) .selected is 1
+    ∷ chosen true (written 0x24 0b10000 (setting 0 0b0001 0b1001)) (clocks false true false) (settled 2) .selected is 2
+    ∷ chosen true (written 0x24 0b11001 (setting 0 0 0)) (clocks true false false) (settled 9) .selected is 9
+    -- a wait that stands still in a window, that goes past n + 1, that falls to n + 1, or that counts for another best
+    ∷ waitAfter true 3 2 waiting is 4
+    ∷ waitAfter true 2 2 waiting is 3
+    ∷ waitAfter true 1 2 waiting is 3
+    ∷ waitAfter true 2 1 waiting is 1
+    ∷ []
+
 abbrev pub Avoided : Type 0
-Avoided = Holds table × (Holds loadings × Holds readings)
+Avoided = Holds table × (Holds loadings × (Holds readings × Holds hours))

@@ -1,7 +1,9 @@
--- Document 01, "Events", with the finer readings of request #106 of document 02, and the calls of #104, which are events of a history too.
+-- Document 01, "Events", with the finer readings of request #106 of document 02, and the calls of #104 and #107, which are events of a history too.
 use Prim.Native.Nat.{ℕ}
 use mathlib.Core.Bool.{Bool, true, false}
+use mathlib.Core.List.{List}
 use lib.IntN.{ℤ, pos, _*ℤ_}
+use Rattle.rules.specs.Week.{Window}
 
 pub data Event : Type 0 where
   -- "Tick (irregular mask, bit i−1 for input i; lock flag; frequency sample in parts per 10^12"
@@ -16,6 +18,10 @@ pub data Event : Type 0 where
   setBucket : ℕ → ℕ → ℕ → ℕ → ℕ → Event
   -- #104, ".. or assigning a set": the input, and the set's number
   assignBucket : ℕ → ℕ → Event
+  -- #107, "a call sets the place in the week"
+  setWeek : ℕ → Event
+  -- #107, "setting .. the windows": all of them
+  setWindows : List Window → Event
 
 -- #106: "The new counter resolves 1/64 ppm." 0.5 ppm, in which the limits and the offsets of the old kind are, is so many of its steps.
 abbrev pub halfPpm : ℕ
@@ -36,6 +42,8 @@ isTick hit = false
 isTick (write a v) = false
 isTick (setBucket n size setLevel clearLevel d) = false
 isTick (assignBucket i n) = false
+isTick (setWeek place) = false
+isTick (setWindows windows) = false
 
 -- a call of the host's, which no run sheet can hold
 abbrev pub isCall : Event → Bool
@@ -45,3 +53,5 @@ isCall hit = false
 isCall (write a v) = false
 isCall (setBucket n size setLevel clearLevel d) = true
 isCall (assignBucket i n) = true
+isCall (setWeek place) = true
+isCall (setWindows windows) = true

@@ -6,7 +6,7 @@ use mathlib.Core.List.{List, map}
 use lib.Dec.{eqb}
 use lib.IntN.{ℤ, natAbs}
 use lib.ListN.{getD, drop}
-use Rattle.rules.specs.Events.{Event, tick, measurement, hit, write, setBucket, assignBucket, oldKind}
+use Rattle.rules.specs.Events.{Event, tick, measurement, hit, write, setBucket, assignBucket, setWeek, setWindows, oldKind}
 use Rattle.rules.specs.Settings.{qualification}
 use Rattle.rules.specs.State.{State}
 use Rattle.rules.specs.Run.{outcome, run}
@@ -24,6 +24,8 @@ finer hit = hit
 finer (write a v) = write a v
 finer (setBucket n size setLevel clearLevel d) = setBucket n size setLevel clearLevel d
 finer (assignBucket i n) = assignBucket i n
+finer (setWeek place) = setWeek place
+finer (setWindows windows) = setWindows windows
 
 -- each event, in every state: number and state are those of the rules before
 abbrev pub EventAsBefore : Type 0

@@ -1,5 +1,5 @@
 -- What holds in every state that events lead to from a fresh unit, and other laws of the rules, as statements. The last definition, `Laws`, has them all, and is
--- proved in proofs/Laws.antt. The laws of the printed pages stand in PageLaws.
+-- proved in proofs/Laws.antt. The laws of the busy hours stand in BusyHours, those of the printed pages in PageLaws.
 use Prim.Native.Nat.{ℕ, _+_, _-_, _*_, _/_, _%_, _^_, _≤_, _<_, min}
 use mathlib.Core.Path.{_≡_}
 use mathlib.Core.Logic.{_⊎_}
@@ -13,6 +13,7 @@ use Rattle.rules.specs.Events.{Event, sampleLimit, isTick, isCall}
 use Rattle.rules.specs.Monitors.{Bucket, Input, fullSoak, qualified, alarmTicks}
 use Rattle.rules.specs.Pll.{modeNumber, holdover, is, Loop, lockTicks, unlockTicks}
 use Rattle.rules.specs.Settings.{Settings, automatic, reject, qualification, usable, revertive, ahead, delayTicks}
+use Rattle.rules.specs.Week.{weekTicks, Week, windowsFit}
 use Rattle.rules.specs.Selection.{Inputs, input, Choice, available, candidate, best, settled, waitLimit, waitAfter, reverted, chosen}
 use Rattle.rules.specs.Buckets.{Buckets, freshBuckets, setAt, setOf, bucketOf}
 use Rattle.rules.specs.History.{History, blockSamples, keptBlocks, readyBlocks, sumLimit, saturated, sumOf, value}
@@ -58,7 +59,7 @@ pub record SoundSettings (set : Settings) : Type 0 where
   pub largest-le : (a : ℕ) → set a ≤ largest a
   pub apart : qualification set + 6 ≤ reject set
 
--- lock run at most 16, unlock run at most 781; selected at most 9; the wait within the longest delay, 119,532 ticks, and 0 while nothing is selected, and
+-- lock run at most 16, unlock run at most 781; selected at most 9; the wait at most one more than the longest delay, 119,533 ticks, and 0 while nothing is selected, and
 -- counting for none while it is 0; a selected reference has one of the four tracking states (2 to 5), and nothing else has
 pub record SoundLoop (p : Loop) (c : Choice) : Type 0 where
   pub lock-le : p .lockRun ≤ lockTicks
@@ -96,6 +97,11 @@ pub record SoundHistory (h : History) : Type 0 where
   pub backup : SoundBlocks (h .backup)
   pub backup-full : (h .backup ≡ []) ⊎ (readyBlocks ≤ length (h .backup))
 
+-- a place of the week, and windows that the check lets through
+pub record SoundWeek (w : Week) : Type 0 where
+  pub place-lt : w .place < weekTicks
+  pub fit : windowsFit (w .windows) ≡ true
+
 pub record Lawful (s : State) : Type 0 where
   pub buckets : SoundBuckets (s .buckets)
   pub inputs : SoundInputs (s .buckets) (s .inputs)
@@ -107,6 +113,7 @@ pub record Lawful (s : State) : Type 0 where
   -- ticks are counted in Holdover alone
   pub holding-le : s .holding ≤ holdingLimit
   pub holding-none : (modeNumber (mode s) ≡ modeNumber holdover → ⊥) → s .holding ≡ 0
+  pub week : SoundWeek (s .week)
 
 abbrev pub Invariants : Type 0
 Invariants = (start : State) → Fresh start → (es : List Event) → Lawful (run start es)
@@ -162,25 +169,26 @@ abbrev pub Eligible : Settings → Inputs → ℕ → Type 0
 Eligible set inputs c = (c ≡ 0) ⊎ (((c ≡ 9) × (usable set 9 ≡ true)) ⊎ (available set inputs c ≡ true))
 
 abbrev pub Judged : Type 0
-Judged = (set : Settings) (inputs : Inputs) (c : Choice) → automatic set ≡ true → Eligible set inputs (chosen set inputs c .selected)
+Judged = (blocked : Bool) (set : Settings) (inputs : Inputs) (c : Choice) → automatic set ≡ true → Eligible set inputs (chosen blocked set inputs c .selected)
 
 -- under any control what is selected is none, Free Run or a qualified reference
 abbrev pub Selectable : Inputs → ℕ → Type 0
 Selectable inputs c = ((c ≡ 0) ⊎ (c ≡ 9)) ⊎ ((isInput c ≡ true) × (qualified (input inputs c) ≡ true))
 
 abbrev pub Selected : Type 0
-Selected = (set : Settings) (inputs : Inputs) (c : Choice) → Selectable inputs (chosen set inputs c .selected)
+Selected = (blocked : Bool) (set : Settings) (inputs : Inputs) (c : Choice) → Selectable inputs (chosen blocked set inputs c .selected)
 
 -- a non-revertive candidate stays selected, whatever the best's own bit 3 says
 abbrev pub NonRevertive : Type 0
 NonRevertive =
-    (set : Settings) (inputs : Inputs) (c : Choice) → automatic set ≡ true → candidate set inputs (c .selected) ≡ true → revertive set (c .selected) ≡ false
-    → chosen set inputs c ≡ settled (c .selected)
+    (blocked : Bool) (set : Settings) (inputs : Inputs) (c : Choice) → automatic set ≡ true → candidate set inputs (c .selected) ≡ true
+    → revertive set (c .selected) ≡ false → chosen blocked set inputs c ≡ settled (c .selected)
 
--- a wait starts anew for another best, and ends with the switch not before its n ticks are over
+-- a wait starts anew for another best, and ends with the switch not before its n ticks are over, and outside a window
 pub record WaitRule : Type 0 where
-  pub anew : (b : ℕ) (c : Choice) → (c .waitFor ≡ b → ⊥) → waitAfter b c ≡ 1
-  pub full : (n b : ℕ) (c : Choice) → (c .selected ≡ b → ⊥) → reverted n b c .selected ≡ b → n < waitAfter b c
+  pub anew : (blocked : Bool) (n b : ℕ) (c : Choice) → (c .waitFor ≡ b → ⊥) → waitAfter blocked n b c ≡ 1
+  pub full : (blocked : Bool) (n b : ℕ) (c : Choice) → (c .selected ≡ b → ⊥) → reverted blocked n b c .selected ≡ b
+      → (n < waitAfter blocked n b c) × (blocked ≡ false)
 
 -- ---- the value
 
@@ -239,9 +247,9 @@ abbrev pub Callless : List Event → Type 0
 Callless [] = Unit {0}
 Callless (e ∷ es) = (isCall e ≡ false) × Callless es
 
--- leaves every set and every input's set as they start
+-- leaves every set and every input's set as they start, and sets no window
 abbrev pub Untouched : Type 0
-Untouched = (start : State) → Fresh start → (es : List Event) → Callless es → run start es .buckets ≡ freshBuckets
+Untouched = (start : State) → Fresh start → (es : List Event) → Callless es → (run start es .buckets ≡ freshBuckets) × (run start es .week .windows ≡ [])
 
 -- and a run sheet has none
 abbrev pub NoCalls : Type 0

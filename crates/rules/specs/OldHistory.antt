@@ -7,7 +7,7 @@ use lib.Dec.{leb, eqb}
 use lib.IntN.{ℤ, _+ℤ_}
 use lib.ListN.{take}
 use Rattle.rules.specs.Words.{if_then_else_, isCounted}
-use Rattle.rules.specs.Events.{Event, tick, measurement, hit, write, setBucket, assignBucket}
+use Rattle.rules.specs.Events.{Event, tick, measurement, hit, write, setBucket, assignBucket, setWeek, setWindows}
 use Rattle.rules.specs.Pll.{locked, is}
 use Rattle.rules.specs.Settings.{policy}
 use Rattle.rules.specs.History.{History, blockSamples, keptBlocks, refilled, withBlocks, openEmptied, saturated, withLast, backedUp, withCommand}
@@ -54,7 +54,16 @@ oldCommanded c h =
 -- the state with another history
 unfoldable pub withHistory : History → State → State
 withHistory h s =
-    record { inputs = s .inputs; buckets = s .buckets; settings = s .settings; loop = s .loop; choice = s .choice; history = h; holding = s .holding }
+    record {
+      inputs = s .inputs;
+      buckets = s .buckets;
+      settings = s .settings;
+      loop = s .loop;
+      choice = s .choice;
+      history = h;
+      holding = s .holding;
+      week = s .week;
+    }
 
 -- what an accepted event leaves: what the rules have it leave, but for the history after a tick's step 5 and after a command
 unfoldable pub oldEffect : State → Event → State
@@ -65,6 +74,8 @@ oldEffect s (measurement i offset) = effect s (measurement i offset)
 oldEffect s hit = effect s hit
 oldEffect s (setBucket n size setLevel clearLevel d) = effect s (setBucket n size setLevel clearLevel d)
 oldEffect s (assignBucket i n) = effect s (assignBucket i n)
+oldEffect s (setWeek place) = effect s (setWeek place)
+oldEffect s (setWindows windows) = effect s (setWindows windows)
 oldEffect s (write a v) = withHistory (if eqb a 0x26 then oldCommanded v (s .history) else s .history) (effect s (write a v))
 
 -- what any event leaves: one that is turned down leaves the state as it was

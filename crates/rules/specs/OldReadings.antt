@@ -8,7 +8,7 @@ use lib.Dec.{ltb, eqb}
 use lib.IntN.{ℤ}
 use lib.ListN.{drop}
 use Rattle.rules.specs.Words.{if_then_else_}
-use Rattle.rules.specs.Events.{Event, tick, measurement, hit, write, setBucket, assignBucket}
+use Rattle.rules.specs.Events.{Event, tick, measurement, hit, write, setBucket, assignBucket, setWeek, setWindows}
 use Rattle.rules.specs.Monitors.{measured}
 use Rattle.rules.specs.Settings.{reject, qualification}
 use Rattle.rules.specs.Selection.{altered}
@@ -28,6 +28,8 @@ coarseEffect s hit = effect s hit
 coarseEffect s (write a v) = effect s (write a v)
 coarseEffect s (setBucket n size setLevel clearLevel d) = effect s (setBucket n size setLevel clearLevel d)
 coarseEffect s (assignBucket i n) = effect s (assignBucket i n)
+coarseEffect s (setWeek place) = effect s (setWeek place)
+coarseEffect s (setWindows windows) = effect s (setWindows windows)
 
 unfoldable pub coarseOutcome : State → Event → Outcome
 coarseOutcome s e = record { refusal = refusal s e; state = if accepted s e then coarseEffect s e else s }

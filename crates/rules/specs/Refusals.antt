@@ -1,11 +1,13 @@
--- Document 01, "Turned down", numbers 1 to 8, and 14 of request #104: what an event is turned down with. "Checked in number order."
+-- Document 01, "Turned down", numbers 1 to 8, and 14 and 16 of requests #104 and #107: what an event is turned down with. "Checked in number order."
 use Prim.Native.Nat.{ℕ, _+_}
 use mathlib.Core.Bool.{Bool, not, _&&_, _||_}
+use mathlib.Core.List.{List}
 use lib.Dec.{leb, ltb, eqb}
 use lib.IntN.{natAbs}
 use Rattle.rules.specs.Words.{if_then_else_, isInput, isTracked}
-use Rattle.rules.specs.Events.{Event, tick, measurement, hit, write, setBucket, assignBucket, sampleLimit}
+use Rattle.rules.specs.Events.{Event, tick, measurement, hit, write, setBucket, assignBucket, setWeek, setWindows, sampleLimit}
 use Rattle.rules.specs.Settings.{Settings, reject, qualification}
+use Rattle.rules.specs.Week.{weekTicks, Window, windowsFit}
 use Rattle.rules.specs.Buckets.{inBounds, isSetNumber}
 use Rattle.rules.specs.History.{held}
 use Rattle.rules.specs.State.{State, selected, Ready}
@@ -41,6 +43,14 @@ setRefusal n size setLevel clearLevel d = if isSetNumber n && inBounds size setL
 unfoldable pub assignRefusal : ℕ → ℕ → ℕ
 assignRefusal i n = if not (isInput i) then 6 else (if isSetNumber n then 0 else 14)
 
+-- 16: "place 4,725,000 or more"
+unfoldable pub weekRefusal : ℕ → ℕ
+weekRefusal place = if ltb place weekTicks then 0 else 16
+
+-- 16: "over eight windows, start not before end, end past the week, not ascending with a free tick between, or first at 0 with last ending the week"
+unfoldable pub windowsRefusal : List Window → ℕ
+windowsRefusal windows = if windowsFit windows then 0 else 16
+
 -- 5: "Hit with no reference 1 to 8 selected"; 6: "input not 1 to 8"; 7: "sample out of range"; 0 where the event is accepted
 unfoldable pub refusal : State → Event → ℕ
 refusal s (tick mask lock x) = if leb (natAbs x) sampleLimit then 0 else 7
@@ -49,6 +59,8 @@ refusal s hit = if isTracked (selected s) then 0 else 5
 refusal s (write a v) = writeRefusal (s .settings) (Ready s) (held (s .history .backup)) a v
 refusal s (setBucket n size setLevel clearLevel d) = setRefusal n size setLevel clearLevel d
 refusal s (assignBucket i n) = assignRefusal i n
+refusal s (setWeek place) = weekRefusal place
+refusal s (setWindows windows) = windowsRefusal windows
 
 -- "An accepted event is one not turned down."
 abbrev pub accepted : State → Event → Bool

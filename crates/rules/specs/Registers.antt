@@ -8,6 +8,7 @@ use Rattle.rules.specs.Words.{if_then_else_, between}
 use Rattle.rules.specs.Monitors.{freshInput}
 use Rattle.rules.specs.Pll.{freeRun}
 use Rattle.rules.specs.Settings.{Settings}
+use Rattle.rules.specs.Week.{freshWeek}
 use Rattle.rules.specs.Selection.{settled}
 use Rattle.rules.specs.Buckets.{freshBuckets}
 use Rattle.rules.specs.History.{freshHistory}
@@ -107,6 +108,7 @@ freshWith set =
       choice = settled 0;
       history = freshHistory;
       holding = 0;
+      week = freshWeek;
     }
 
 -- the column Fresh

@@ -4,9 +4,10 @@ use mathlib.Core.List.{List, [], _∷_}
 use lib.Dec.{eqb}
 use lib.IntN.{ℤ}
 use Rattle.rules.specs.Words.{if_then_else_}
-use Rattle.rules.specs.Events.{Event, tick, measurement, hit, write, setBucket, assignBucket, halfPpm}
+use Rattle.rules.specs.Events.{Event, tick, measurement, hit, write, setBucket, assignBucket, setWeek, setWindows, halfPpm}
 use Rattle.rules.specs.Monitors.{Bucket, measured, unsoaked}
 use Rattle.rules.specs.Settings.{reject, qualification}
+use Rattle.rules.specs.Week.{Week}
 use Rattle.rules.specs.Selection.{Inputs, altered, settled, unselectedLoop}
 use Rattle.rules.specs.Buckets.{Buckets, bucketFrom, setAt, withSet, withAssigned, putAtSize, having}
 use Rattle.rules.specs.History.{openEmptied, commanded}
@@ -26,6 +27,7 @@ withInputs inputs s =
       choice = s .choice;
       history = s .history;
       holding = s .holding;
+      week = s .week;
     }
 
 -- a measurement, on one input. #106: "the limits are compared as 32 times theirs"
@@ -44,6 +46,7 @@ afterHit s =
       choice = settled 0;
       history = openEmptied (s .history);
       holding = 0;
+      week = s .week;
     }
 
 -- A write of 0x26 is a command to the history; any other is a setting. "Commands do not change the state before the next tick."
@@ -57,6 +60,7 @@ afterWrite a v s =
       choice = s .choice;
       history = if eqb a 0x26 then commanded v (s .history) else s .history;
       holding = s .holding;
+      week = s .week;
     }
 
 -- the state with other sets or assignments, and the inputs that they concern put at their size
@@ -70,6 +74,7 @@ afterCall buckets inputs s =
       choice = s .choice;
       history = s .history;
       holding = s .holding;
+      week = s .week;
     }
 
 unfoldable pub afterSet : ℕ → Bucket → State → State
@@ -77,6 +82,20 @@ afterSet n b s = afterCall (withSet n b (s .buckets)) (putAtSize (having (s .buc
 
 unfoldable pub afterAssign : ℕ → ℕ → State → State
 afterAssign i n s = afterCall (withAssigned i n (s .buckets)) (putAtSize (eqb i) (setAt (s .buckets) n .size) (s .inputs)) s
+
+-- the state with another week
+unfoldable pub afterWeek : Week → State → State
+afterWeek week s =
+    record {
+      inputs = s .inputs;
+      buckets = s .buckets;
+      settings = s .settings;
+      loop = s .loop;
+      choice = s .choice;
+      history = s .history;
+      holding = s .holding;
+      week = week;
+    }
 
 -- what an accepted event leaves
 unfoldable pub effect : State → Event → State
@@ -86,6 +105,8 @@ effect s hit = afterHit s
 effect s (write a v) = afterWrite a v s
 effect s (setBucket n size setLevel clearLevel d) = afterSet n (bucketFrom size setLevel clearLevel d) s
 effect s (assignBucket i n) = afterAssign i n s
+effect s (setWeek place) = afterWeek (record { place = place; windows = s .week .windows }) s
+effect s (setWindows windows) = afterWeek (record { place = s .week .place; windows = windows }) s
 
 -- what any event leaves: one that is turned down leaves the state "as before"
 unfoldable pub next : State → Event → State

@@ -1,4 +1,5 @@
--- Document 01, "Selection (step 4)": which candidate is selected, the wait, and the state after the choice.
+-- Document 01, "Selection (step 4)", with the busy hours of request #107 of document 02: which candidate is selected, the wait, and the state after the
+-- choice.
 use Prim.Native.Nat.{ℕ, zero, suc, _+_, _-_, min}
 use mathlib.Core.Bool.{Bool, not, _&&_, _||_}
 use mathlib.Core.List.{List, [], _∷_}
@@ -60,32 +61,36 @@ best set inputs = bestUpTo set inputs 9
 unfoldable pub settled : ℕ → Choice
 settled c = record { selected = c; wait = 0; waitFor = 0 }
 
--- one tick more than the longest delay, 255 minutes: the wait stops here, and from fresh it never comes past it (`Saturation` in Laws)
+-- two ticks more than the longest delay, 255 minutes: the wait stops here, and from fresh it never comes so far (`Saturation` in Laws)
 abbrev pub waitLimit : ℕ
-waitLimit = 119_533
+waitLimit = 119_534
 
--- "the wait rises by 1, or is 1 if it was 0 or counted for another best". So it is never carried over to another best.
-unfoldable pub waitAfter : ℕ → Choice → ℕ
-waitAfter b c = if eqb (c .wait) 0 || not (eqb (c .waitFor) b) then 1 else min waitLimit (c .wait + 1)
+-- "the wait rises by 1, or is 1 if it was 0 or counted for another best". So it is never carried over to another best. `blocked` says that the tick lies in a
+-- window. #107: "meanwhile the wait rises only if it is below n + 1"
+unfoldable pub waitAfter : Bool → ℕ → ℕ → Choice → ℕ
+waitAfter blocked n b c =
+    if eqb (c .wait) 0 || not (eqb (c .waitFor) b) then 1
+    else min waitLimit (if blocked && leb (n + 1) (c .wait) then c .wait else c .wait + 1)
 
 -- "the switch comes when wait − 1 is n or more"
 unfoldable pub switches : ℕ → ℕ → Bool
 switches n wait = leb n (wait - 1)
 
--- the reversion from the selected candidate to the best
-unfoldable pub reverted : ℕ → ℕ → Choice → Choice
-reverted n b c =
-    if switches n (waitAfter b c) then settled b
-    else record { selected = c .selected; wait = waitAfter b c; waitFor = b }
+-- the reversion from the selected candidate to the best. #107: windows "block the switch of a reversion"
+unfoldable pub reverted : Bool → ℕ → ℕ → Choice → Choice
+reverted blocked n b c =
+    if not blocked && switches n (waitAfter blocked n b c) then settled b
+    else record { selected = c .selected; wait = waitAfter blocked n b c; waitFor = b }
 
 -- "If the selected one is no candidate, the best is taken, or 0. If it is best, it stays and the wait is 0. If it is not best and non-revertive, it stays
 -- and the wait is 0. If revertive, the wait rises ..". The bit that counts is the selected one's, not the best's; a best of equal priority is waited for too.
-unfoldable pub reselected : Settings → Inputs → ℕ → Choice → Choice
-reselected set inputs b c =
+-- #107: "A switch off a lost reference is never blocked."
+unfoldable pub reselected : Bool → Settings → Inputs → ℕ → Choice → Choice
+reselected blocked set inputs b c =
     if not (candidate set inputs (c .selected)) then settled b
     else (if eqb (c .selected) b then settled (c .selected)
     else (if not (revertive set (c .selected)) then settled (c .selected)
-    else reverted (reversion set) b c))
+    else reverted blocked (reversion set) b c))
 
 -- ---- manual
 
@@ -93,8 +98,8 @@ reselected set inputs b c =
 unfoldable pub manual : Settings → Inputs → Choice
 manual set inputs = settled (if isInput (opMode set) && qualified (input inputs (opMode set)) then opMode set else 0)
 
-unfoldable pub chosen : Settings → Inputs → Choice → Choice
-chosen set inputs c = if automatic set then reselected set inputs (best set inputs) c else manual set inputs
+unfoldable pub chosen : Bool → Settings → Inputs → Choice → Choice
+chosen blocked set inputs c = if automatic set then reselected blocked set inputs (best set inputs) c else manual set inputs
 
 -- ---- the state
 

@@ -3,6 +3,7 @@ use Prim.Native.Nat.{ℕ}
 use mathlib.Core.Bool.{Bool}
 use Rattle.rules.specs.Pll.{Mode, Loop}
 use Rattle.rules.specs.Settings.{Settings}
+use Rattle.rules.specs.Week.{Week, busy}
 use Rattle.rules.specs.Selection.{Inputs, Choice}
 use Rattle.rules.specs.Buckets.{Buckets}
 use Rattle.rules.specs.History.{History, ready}
@@ -17,12 +18,18 @@ pub record State : Type 0 where
   pub history : History
   -- the ticks in Holdover after the entering event; 0 in any other state
   pub holding : ℕ
+  -- #107: the place in the week, and the windows
+  pub week : Week
 
 abbrev pub selected : State → ℕ
 selected s = s .choice .selected
 
 abbrev pub mode : State → Mode
 mode s = s .loop .mode
+
+-- the place lies in a window
+abbrev pub Blocked : State → Bool
+Blocked s = busy (s .week .windows) (s .week .place)
 
 abbrev pub Ready : State → Bool
 Ready s = ready (s .history)

@@ -1,4 +1,4 @@
--- A tick: its five steps in order.
+-- A tick: its five steps in order, and after the selection the place in the week (#107).
 use Prim.Native.Nat.{ℕ, _+_, _*_, min}
 use mathlib.Core.Bool.{Bool, _&&_}
 use lib.IntN.{ℤ}
@@ -6,10 +6,11 @@ use Rattle.rules.specs.Words.{if_then_else_, bitOf, isTracked}
 use Rattle.rules.specs.Monitors.{Bucket, monitored, lockAlarmed}
 use Rattle.rules.specs.Pll.{Mode, holdover, locked, is, Loop, looped, alarmDue}
 use Rattle.rules.specs.Settings.{policy, automatic, opMode}
+use Rattle.rules.specs.Week.{Week, advanced}
 use Rattle.rules.specs.Selection.{Inputs, altered, eachFrom, chosen, steered}
 use Rattle.rules.specs.Buckets.{bucketOf}
 use Rattle.rules.specs.History.{recorded}
-use Rattle.rules.specs.State.{State, selected, mode, Ready}
+use Rattle.rules.specs.State.{State, selected, mode, Blocked, Ready}
 
 -- Steps 1 and 2: each input by its bucket and its bit of the irregular mask.
 unfoldable pub watched : (ℕ → Bucket) → ℕ → Inputs → Inputs
@@ -39,11 +40,15 @@ holdingLimit = 255 * hourTicks
 unfoldable pub holdingAfter : Mode → Mode → ℕ → ℕ
 holdingAfter before after holding = if is holdover before && is holdover after then min holdingLimit (holding + 1) else 0
 
--- Steps 1 to 4.
+-- #107: "each tick advances it after its selection step"
+unfoldable pub weekAfter : Week → Week
+weekAfter w = record { place = advanced (w .place); windows = w .windows }
+
+-- Steps 1 to 4. The selection is by the place that stands, and then the place advances.
 unfoldable pub steps1to4 : ℕ → Bool → State → State
 steps1to4 mask lock s =
     let inputs = inputsAfter mask lock s in
-    let choice = chosen (s .settings) inputs (s .choice) in
+    let choice = chosen (Blocked s) (s .settings) inputs (s .choice) in
     let loop = steered (automatic (s .settings)) (opMode (s .settings)) (Ready s) (selected s) (choice .selected) (loopAfter lock s) in
     record {
       inputs = inputs;
@@ -53,6 +58,7 @@ steps1to4 mask lock s =
       choice = choice;
       history = s .history;
       holding = holdingAfter (mode s) (loop .mode) (s .holding);
+      week = weekAfter (s .week);
     }
 
 -- Step 5.
@@ -66,6 +72,7 @@ step5 x s =
       choice = s .choice;
       history = recorded (policy (s .settings)) (selected s) (is locked (mode s)) x (s .history);
       holding = s .holding;
+      week = s .week;
     }
 
 unfoldable pub ticked : ℕ → Bool → ℤ → State → State
