@@ -1,6 +1,6 @@
 -- A table byte by byte: byte k is that of the map's register at place k, and the command stands at place 10.
 use Prim.Native.Nat.{ℕ, _+_, _≤_, _<_}
-use mathlib.Core.Path.{_≡_, refl, ap, sym, subst}
+use mathlib.Core.Path.{_≡_, refl, ap, sym}
 use mathlib.Core.Bool.{true, false, not, _||_}
 use mathlib.Core.List.{List}
 use native.Mathlib.Omega.{arith}
@@ -12,10 +12,6 @@ use Rattle.rules.specs.Registers.{Register, registers, reads, place, settingsFr
 use Rattle.rules.specs.Loading.{most, fits}
 use Rattle.rules.proofs.Tests.{by-test, not-true}
 use Rattle.rules.proofs.Tables.{at-index, all-pass, at-below}
-
--- what holds below a place and at it holds below the next
-pub one-more : (P : ℕ → Type 0) (k : ℕ) → ((j : ℕ) → j < k → P j) → P k → (j : ℕ) → j < k + 1 → P j
-one-more P k below at j h = by-test (eqb j k) (λ e. subst P (sym (eqb-true j k e)) at) (λ e. below j (omega (arith, h, eqb-false j k e)))
 
 -- the register at a place; past the map, one that is read only
 abbrev pub at : ℕ → Register

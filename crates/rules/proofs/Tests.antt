@@ -1,11 +1,11 @@
--- Choices by a test, and tests joined by "and" and "or".
-use Prim.Native.Nat.{ℕ, suc, _+_, _≤_}
-use mathlib.Core.Path.{_≡_, refl, sym, _∙_}
+-- Choices by a test, tests joined by "and" and "or", and what holds place by place.
+use Prim.Native.Nat.{ℕ, suc, _+_, _≤_, _<_}
+use mathlib.Core.Path.{_≡_, refl, sym, subst, _∙_}
 use mathlib.Core.Logic.{_⊎_, inl, inr}
 use mathlib.Core.Bool.{Bool, true, false, not, _&&_, _||_, true≢false, false≢true}
 use native.Mathlib.Omega.{arith}
 use lib.Dec.{leb, eqb, eqb·suc-zero}
-use borrow.Author.Tests.{leb-true, le-leb}
+use borrow.Author.Tests.{eqb-true, eqb-false, leb-true, le-leb}
 use Rattle.rules.specs.Words.{if_then_else_, between}
 
 -- what both arms have, the choice has
@@ -80,3 +80,7 @@ unrefused false n rest e = (refl, e)
 pub zero-if : (b : Bool) (n : ℕ) → eqb (if b then 0 else suc n) 0 ≡ true → b ≡ true
 zero-if true n e = refl
 zero-if false n e = absurd (false≢true (sym (eqb·suc-zero n) ∙ e))
+
+-- what holds below a place and at it holds below the next
+pub one-more : (P : ℕ → Type 0) (k : ℕ) → ((j : ℕ) → j < k → P j) → P k → (j : ℕ) → j < k + 1 → P j
+one-more P k below at j h = by-test (eqb j k) (λ e. subst P (sym (eqb-true j k e)) at) (λ e. below j (omega (arith, h, eqb-false j k e)))

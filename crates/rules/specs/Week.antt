@@ -1,9 +1,9 @@
 -- Request #107 of document 02, "No reversion during busy hours": the week, the place in it, the windows, and the one check of the calls that set them.
-use Prim.Native.Nat.{ℕ, zero, suc, _+_, _-_, max}
+use Prim.Native.Nat.{ℕ, zero, suc, _+_, _-_, _*_, max}
 use mathlib.Core.Bool.{Bool, true, false, not, _&&_, _||_}
 use mathlib.Core.List.{List, [], _∷_}
 use lib.Dec.{leb, ltb, eqb}
-use lib.ListN.{length, getD, drop}
+use lib.ListN.{length, getD}
 use Rattle.rules.specs.Words.{if_then_else_}
 
 -- "A week is 4,725,000 ticks"
@@ -70,9 +70,17 @@ endsWeek ws = eqb (lastEnd 0 ws) weekTicks
 unfoldable pub windowsFit : List Window → Bool
 windowsFit ws = leb (length ws) 8 && (ascending 0 ws && not (startsWeek ws && endsWeek ws))
 
--- ---- a call's numbers
+-- ---- windows written as numbers, start and end in turn
 
--- the first `count` windows of numbers that are start and end in turn; a number that is not there counts as 0
-unfoldable pub windowsFrom : ℕ → List ℕ → List Window
-windowsFrom zero numbers = []
-windowsFrom (suc count) numbers = record { start = getD numbers 0 0; end = getD numbers 1 0 } ∷ windowsFrom count (drop 2 numbers)
+-- window k of them, the first being window 0; a number that is not there counts as 0
+abbrev pub windowAt : ℕ → List ℕ → Window
+windowAt k numbers = record { start = getD numbers (2 * k) 0; end = getD numbers (2 * k + 1) 0 }
+
+-- `count` of them, from window k on
+unfoldable pub windowsFrom : ℕ → ℕ → List ℕ → List Window
+windowsFrom zero k numbers = []
+windowsFrom (suc count) k numbers = windowAt k numbers ∷ windowsFrom count (k + 1) numbers
+
+-- a call's windows: start and end of each of the first `count`
+abbrev pub firstWindows : ℕ → List ℕ → List Window
+firstWindows count numbers = windowsFrom count 0 numbers

@@ -5,7 +5,7 @@ use native.Mathlib.Omega.{arith}
 use lib.ListN.{length, getD, set, length-set}
 use lib.Seq.{getD-set-same, getD-set-other}
 use borrow.Author.Needs.{needs}
-use Rattle.loading.proofs.Bytes.{one-more}
+use Rattle.rules.proofs.Tests.{one-more}
 use Rattle.loading.proofs.Stored.{keptAt, kept-all}
 use Rattle.loading.proofs.registers_from.Statement.{statement}
 use Rattle.loading.proofs.registers_from.Tie as tie

@@ -5,7 +5,8 @@ use mathlib.Core.Bool.{true}
 use native.Mathlib.Omega.{arith}
 use borrow.Author.Needs.{needs}
 use Rattle.rules.specs.Loading.{fits}
-use Rattle.loading.proofs.Bytes.{one-more, at, fits-here, all-fit, one-above}
+use Rattle.rules.proofs.Tests.{one-more}
+use Rattle.loading.proofs.Bytes.{at, fits-here, all-fit, one-above}
 use Rattle.loading.proofs.within.Statement.{statement}
 use Rattle.loading.proofs.within.Tie as tie
 

@@ -1,0 +1,2 @@
+-- What the contracts of the week cite.
+pub mod Bridge
