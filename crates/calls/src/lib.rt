@@ -1,12 +1,14 @@
-// The calls of the host's that are no events of a run sheet (document 02, #104: setting and assigning a set of bucket numbers): a number, and the whole unit
-// after it. A refusal leaves every stored number as it was.
+// The calls of the host's that are no events of a run sheet (document 02, #104: setting and assigning a set of bucket numbers; #107: setting the place in the
+// week, and the windows): a number, and the whole unit after it. A refusal leaves every stored number as it was.
 // Each contract is an equation with the rule `outcome` through the unit's bridge.
 ghost use mathlib.Core.Path.{_≡_};
-ghost use Rattle.rules.specs.Events.{setBucket, assignBucket};
+ghost use Rattle.rules.specs.Events.{setBucket, assignBucket, setWeek, setWindows};
+ghost use Rattle.rules.specs.Week.{firstWindows};
 ghost use Rattle.unit.specs.Bridge.{Gives, partsOf};
 use arith::wide16;
 use unit::Outcome;
 use unit::Unit;
+use week::Week;
 
 // Set n is set, or refusal 14.
 pub fn set_bucket(u: Unit, n: u8, size: u8, high: u8, low: u8, d: u8) -> Outcome
@@ -48,6 +50,54 @@ pub fn assign_bucket(u: Unit, i: u8, n: u8) -> Outcome
         let rows = inputs::put_at_size(m, concerned, size, sets);
         let mut next = u;
         next.monitors = rows;
+        return Outcome {
+            refusal: 0,
+            unit: next,
+        };
+    }
+    Outcome {
+        refusal: number,
+        unit: u,
+    }
+}
+
+// The place in the week is set, or refusal 16.
+pub fn set_week(u: Unit, place: u32) -> Outcome
+    ensures { λ r. ⌜ Gives (partsOf u) (setWeek place) (r .refusal) (partsOf (r .unit)) ⌝ }
+{
+    let number = week::week_refusal(place);
+    if number == 0 {
+        let windows = u.week.windows;
+        let set = Week {
+            place: place,
+            windows: windows,
+        };
+        let mut next = u;
+        next.week = set;
+        return Outcome {
+            refusal: 0,
+            unit: next,
+        };
+    }
+    Outcome {
+        refusal: number,
+        unit: u,
+    }
+}
+
+// The first `count` windows are set, or refusal 16.
+pub fn set_windows(u: Unit, count: u8, windows: &[u32; 16]) -> Outcome
+    ensures { λ r. ⌜ Gives (partsOf u) (setWindows (firstWindows count (now (windows .entry)))) (r .refusal) (partsOf (r .unit)) ⌝ }
+{
+    let number = week::windows_refusal(count, windows);
+    if number == 0 {
+        let stored = week::kept(count, windows);
+        let set = Week {
+            place: u.week.place,
+            windows: stored,
+        };
+        let mut next = u;
+        next.week = set;
         return Outcome {
             refusal: 0,
             unit: next,

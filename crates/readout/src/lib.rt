@@ -31,7 +31,7 @@ fn byte_of(n: u32) -> u8
 
 // 0x27, the rule `hours`: whole hours in Holdover.
 fn hours(k: Core) -> u8
-    ensures { λ r. ⌜ ((m : stored.Monitors) (regs : List ℕ) (sums building backup : List ℤ) → r ≡ reading.hours (stateOf k m regs sums building backup)) ⌝ }
+    ensures { λ r. ⌜ ((m : stored.Monitors) (regs windows : List ℕ) (sums building backup : List ℤ) → r ≡ reading.hours (stateOf k m regs windows sums building backup)) ⌝ }
 {
     let held = pll::is_holdover(k.pll.mode);
     if held {
@@ -42,7 +42,7 @@ fn hours(k: Core) -> u8
 
 // 0x48, the rule `stateByte`: state and selected.
 pub fn state_byte(k: Core) -> u8
-    ensures { λ r. ⌜ ((m : stored.Monitors) (regs : List ℕ) (sums building backup : List ℤ) → r ≡ reading.stateByte (stateOf k m regs sums building backup)) ⌝ }
+    ensures { λ r. ⌜ ((m : stored.Monitors) (regs windows : List ℕ) (sums building backup : List ℤ) → r ≡ reading.stateByte (stateOf k m regs windows sums building backup)) ⌝ }
 {
     let mode = pll::mode_number(k.pll.mode);
     16 * mode + k.choice.selected % 16
@@ -57,7 +57,7 @@ fn either(a: bool, b: bool) -> bool
 
 // 0x49, the rule `statusByte`: alarm, not Locked, Ready, backup held.
 pub fn status_byte(k: Core) -> u8
-    ensures { λ r. ⌜ ((m : stored.Monitors) (regs : List ℕ) (sums building backup : List ℤ) → length sums ≡ 64 → length backup ≡ 64 → r ≡ reading.statusByte (stateOf k m regs sums building backup)) ⌝ }
+    ensures { λ r. ⌜ ((m : stored.Monitors) (regs windows : List ℕ) (sums building backup : List ℤ) → length sums ≡ 64 → length backup ≡ 64 → r ≡ reading.statusByte (stateOf k m regs windows sums building backup)) ⌝ }
 {
     let mode = k.pll.mode;
     let holdover = pll::is_holdover(mode);

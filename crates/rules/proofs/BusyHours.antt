@@ -60,13 +60,19 @@ module _ (n b : ℕ) (c : Choice) where
   unfolding reverted
   same-wait e = rw (e, unfinished n b c e) refl
 
-  switched : switches n (waitAfter false n b c) ≡ true → reverted false n b c ≡ settled b
+  pub switched : switches n (waitAfter false n b c) ≡ true → reverted false n b c ≡ settled b
   unfolding reverted
   switched e = rw e refl
 
-  kept : reverted true n b c ≡ waiting true n b c
+  pub kept : reverted true n b c ≡ waiting true n b c
   unfolding reverted
   kept = refl
+
+  -- a wait that is not over goes on, in a window or not
+  pub not-over : (blocked : Bool) → switches n (waitAfter false n b c) ≡ false → reverted blocked n b c ≡ waiting false n b c
+  unfolding reverted
+  not-over true e = rw (unfinished n b c e) refl
+  not-over false e = rw e refl
 
 -- a candidate that is not the best, and is revertive
 module _ (set : Settings) (inputs : Inputs) (c : Choice) (a : automatic set ≡ true) (n : not (candidate set inputs (c .selected)) ≡ false)

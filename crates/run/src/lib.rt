@@ -23,7 +23,7 @@ use tick::Core;
 // The rule `recordOf`, at the front of a part of the output.
 fn put_record(out: &mut [u8], refusal: u8, k: Core, soak: &[u16; 8])
     requires { ⌜ 4 ≤ length (now out) ⌝ }
-    ensures { λ _. ⌜ ((m : stored.Monitors) (regs : List ℕ) (sums building backup : List ℤ) → length sums ≡ 64 → length backup ≡ 64 → now (out .exit) ≡ over (recordOf (record { refusal = refusal; state = stateOf k (withSoak m (now (soak .entry))) regs sums building backup })) (now (out .entry))) ⌝ }
+    ensures { λ _. ⌜ ((m : stored.Monitors) (regs windows : List ℕ) (sums building backup : List ℤ) → length sums ≡ 64 → length backup ≡ 64 → now (out .exit) ≡ over (recordOf (record { refusal = refusal; state = stateOf k (withSoak m (now (soak .entry))) regs windows sums building backup })) (now (out .entry))) ⌝ }
 {
     let status = readout::status_byte(k);
     let state = readout::state_byte(k);
@@ -48,8 +48,8 @@ fn run_settings(
     out: &mut [u8],
 ) -> Core
     requires { ⌜ (2 * n ≤ length (now part)) × (4 * n ≤ length (now out)) × (now keys ≡ keysFrom (settingsFrom (now regs))) ⌝ }
-    ensures { λ r. ⌜ ((m : stored.Monitors) → stateOf r (withSoak m (now (soak .entry))) (now (regs .exit)) (now (sums .exit)) (now (building .exit)) (now (backup .exit)) ≡ rules.run (stateOf start (withSoak m (now (soak .entry))) (now (regs .entry)) (now (sums .entry)) (now (building .entry)) (now (backup .entry))) (settingsOf n (now (part .entry)))) ⌝ }
-    ensures { λ _. ⌜ ((m : stored.Monitors) → now (out .exit) ≡ over (records (stateOf start (withSoak m (now (soak .entry))) (now (regs .entry)) (now (sums .entry)) (now (building .entry)) (now (backup .entry))) (settingsOf n (now (part .entry)))) (now (out .entry))) ⌝ }
+    ensures { λ r. ⌜ ((m : stored.Monitors) (windows : List ℕ) → stateOf r (withSoak m (now (soak .entry))) (now (regs .exit)) windows (now (sums .exit)) (now (building .exit)) (now (backup .exit)) ≡ rules.run (stateOf start (withSoak m (now (soak .entry))) (now (regs .entry)) windows (now (sums .entry)) (now (building .entry)) (now (backup .entry))) (settingsOf n (now (part .entry)))) ⌝ }
+    ensures { λ _. ⌜ ((m : stored.Monitors) (windows : List ℕ) → now (out .exit) ≡ over (records (stateOf start (withSoak m (now (soak .entry))) (now (regs .entry)) windows (now (sums .entry)) (now (building .entry)) (now (backup .entry))) (settingsOf n (now (part .entry)))) (now (out .entry))) ⌝ }
     ensures { λ _. ⌜ now (keys .exit) ≡ keysFrom (settingsFrom (now (regs .exit))) ⌝ }
 {
     let mut k = start;
@@ -85,13 +85,14 @@ fn run_events(
     m: Monitors,
     regs: &mut [u8; 27],
     keys: &mut [u16; 9],
+    windows: &[u32; 16],
     sums: &mut [i64; 64],
     building: &mut [i64; 64],
     backup: &mut [i64; 64],
     out: &mut [u8],
 )
     requires { ⌜ (8 * n ≤ length (now part)) × (4 * n ≤ length (now out)) × (now keys ≡ keysFrom (settingsFrom (now regs))) ⌝ }
-    ensures { λ _. ⌜ now (out .exit) ≡ over (records (stateOf start m (now (regs .entry)) (now (sums .entry)) (now (building .entry)) (now (backup .entry))) (eventsOf n (now (part .entry)))) (now (out .entry)) ⌝ }
+    ensures { λ _. ⌜ now (out .exit) ≡ over (records (stateOf start m (now (regs .entry)) (now (windows .entry)) (now (sums .entry)) (now (building .entry)) (now (backup .entry))) (eventsOf n (now (part .entry)))) (now (out .entry)) ⌝ }
 {
     let mut level = m.level;
     let mut decay = m.decay;
@@ -128,6 +129,7 @@ fn run_events(
             &lasts,
             regs,
             keys,
+            windows,
             sums,
             building,
             backup,
@@ -162,6 +164,7 @@ pub fn run_into(sheet: &[u8], out: &mut [u8]) -> usize
     let mut building = h.building;
     let mut backup = h.backup;
     let mut keys = candidates::keys_of(&regs);
+    let windows = u.week.windows;
     let k = run_settings(
         &sheet[2..],
         settings,
@@ -183,6 +186,7 @@ pub fn run_into(sheet: &[u8], out: &mut [u8]) -> usize
         m,
         &mut regs,
         &mut keys,
+        &windows,
         &mut sums,
         &mut building,
         &mut backup,

@@ -1,14 +1,18 @@
-// Selection (document 01, step 4): the wait, and the choice of a tick. The registers, the inputs' soaks and the candidates' keys are lent for reading, and the
-// contracts hold whatever else the inputs are. The settings are `settingsFrom` of the registers.
+// Selection (document 01, step 4, and the busy hours of document 02, #107): the wait, and the choice of a tick. The registers, the inputs' soaks, the
+// candidates' keys and the windows are lent for reading, and the contracts hold whatever else the inputs are. The settings are `settingsFrom` of the
+// registers.
 ghost use mathlib.Core.Path.{_≡_};
 ghost use Prim.Native.Nat.{_-_};
+ghost use Rattle.rules.specs.Week.{busy};
 ghost use Rattle.rules.specs.Selection as selection;
 ghost use Rattle.rules.specs.Selection.{waitAfter};
 ghost use Rattle.rules.specs.Registers.{settingsFrom};
 ghost use Rattle.inputs.specs.Bridge.{inputsOf, withSoak};
 ghost use Rattle.inputs.specs.declared.Monitors as stored;
 ghost use Rattle.candidates.specs.Keys.{keysFrom};
+ghost use Rattle.week.specs.Bridge.{windowsOf};
 ghost use Rattle.selection.specs.Bridge.{choiceOf};
+use arith::both;
 use candidates::best_of;
 use candidates::is_candidate;
 use inputs::qualified_at;
@@ -16,9 +20,10 @@ use registers::is_automatic;
 use registers::is_revertive;
 use registers::setting;
 use waits::delay_ticks;
+use week::is_busy;
 
-// One tick more than the longest delay: the wait stops here.
-const WAIT_LIMIT: u64 = 119_533;
+// Two ticks more than the longest delay: the wait stops here.
+const WAIT_LIMIT: u64 = 119_534;
 
 // What is selected, and the ticks waited for `aim`, the best that they count for. The wait is wider than it need be: see `Loop` of crates/pll.
 #[repr(C)]
@@ -41,15 +46,18 @@ pub fn settled(c: u8) -> Choice
     }
 }
 
-// The rule `waitAfter`: the wait for `b` with this tick.
-fn wait_after(b: u8, c: Choice) -> u64
-    ensures { λ r. ⌜ r ≡ waitAfter b (choiceOf c) ⌝ }
+// The rule `waitAfter`: the wait for `b` with this tick, in a window or not. There a wait over n stays.
+fn wait_after(blocked: bool, n: u64, b: u8, c: Choice) -> u64
+    ensures { λ r. ⌜ r ≡ waitAfter blocked n b (choiceOf c) ⌝ }
 {
     if c.wait == 0 {
         return 1;
     }
     if c.aim == b {
         if c.wait < WAIT_LIMIT {
+            if both(blocked, n < c.wait) {
+                return c.wait;
+            }
             return c.wait + 1;
         }
         return WAIT_LIMIT;
@@ -71,15 +79,10 @@ fn switches(n: u64, wait: u64) -> bool
     n <= less_one(wait)
 }
 
-// The rule `reverted`: the reversion to `b`, which waits for n ticks.
-fn reverted(n: u64, b: u8, c: Choice) -> Choice
-    ensures { λ r. ⌜ choiceOf r ≡ selection.reverted n b (choiceOf c) ⌝ }
+// The selected one stays, with this wait for `b`.
+fn waiting(wait: u64, b: u8, c: Choice) -> Choice
+    ensures { λ r. ⌜ choiceOf r ≡ record { selected = c .selected; wait = wait; waitFor = b } ⌝ }
 {
-    let wait = wait_after(b, c);
-    let over = switches(n, wait);
-    if over {
-        return settled(b);
-    }
     Choice {
         wait: wait,
         selected: c.selected,
@@ -87,12 +90,36 @@ fn reverted(n: u64, b: u8, c: Choice) -> Choice
     }
 }
 
+// The rule `reverted`: the reversion to `b`, which waits for n ticks. The windows are looked at only where the wait is over: until then it rises in them as
+// outside.
+fn reverted(windows: &[u32; 16], place: u32, n: u64, b: u8, c: Choice) -> Choice
+    ensures { λ r. ⌜ choiceOf r ≡ selection.reverted (busy (windowsOf (now (windows .entry))) place) n b (choiceOf c) ⌝ }
+{
+    let wait = wait_after(false, n, b, c);
+    let over = switches(n, wait);
+    if !over {
+        return waiting(wait, b, c);
+    }
+    let blocked = is_busy(windows, place);
+    if blocked {
+        return waiting(wait_after(true, n, b, c), b, c);
+    }
+    settled(b)
+}
+
 // ---- the choice
 
 // The rule `reselected`: automatic control, `b` being the best candidate. Where that is selected, it stays or is chosen, which is the same; the test comes
 // first, where the best is made, so that the compiler can make it of eight lanes side by side.
-fn reselected(soak: &[u16; 8], regs: &[u8; 27], b: u8, c: Choice) -> Choice
-    ensures { λ r. ⌜ ((m : stored.Monitors) → choiceOf r ≡ selection.reselected (settingsFrom (now (regs .entry))) (inputsOf (withSoak m (now (soak .entry)))) b (choiceOf c)) ⌝ }
+fn reselected(
+    soak: &[u16; 8],
+    regs: &[u8; 27],
+    windows: &[u32; 16],
+    place: u32,
+    b: u8,
+    c: Choice,
+) -> Choice
+    ensures { λ r. ⌜ ((m : stored.Monitors) → choiceOf r ≡ selection.reselected (busy (windowsOf (now (windows .entry))) place) (settingsFrom (now (regs .entry))) (inputsOf (withSoak m (now (soak .entry)))) b (choiceOf c)) ⌝ }
 {
     if c.selected == b {
         return settled(b);
@@ -101,7 +128,7 @@ fn reselected(soak: &[u16; 8], regs: &[u8; 27], b: u8, c: Choice) -> Choice
     if stands {
         let reverts = is_revertive(regs, c.selected);
         if reverts {
-            return reverted(delay_ticks(setting(regs, 0x43)), b, c);
+            return reverted(windows, place, delay_ticks(setting(regs, 0x43)), b, c);
         }
         return settled(c.selected);
     }
@@ -120,13 +147,20 @@ fn manual(soak: &[u16; 8], regs: &[u8; 27]) -> Choice
     settled(0)
 }
 
-// The rule `chosen`: the choice of a tick, where the keys are those of the registers.
-pub fn chosen(soak: &[u16; 8], regs: &[u8; 27], keys: &[u16; 9], c: Choice) -> Choice
-    ensures { λ r. ⌜ ((m : stored.Monitors) → now (keys .entry) ≡ keysFrom (settingsFrom (now (regs .entry))) → choiceOf r ≡ selection.chosen (settingsFrom (now (regs .entry))) (inputsOf (withSoak m (now (soak .entry)))) (choiceOf c)) ⌝ }
+// The rule `chosen`: the choice of a tick at a place, where the keys are those of the registers.
+pub fn chosen(
+    soak: &[u16; 8],
+    regs: &[u8; 27],
+    keys: &[u16; 9],
+    windows: &[u32; 16],
+    place: u32,
+    c: Choice,
+) -> Choice
+    ensures { λ r. ⌜ ((m : stored.Monitors) → now (keys .entry) ≡ keysFrom (settingsFrom (now (regs .entry))) → choiceOf r ≡ selection.chosen (busy (windowsOf (now (windows .entry))) place) (settingsFrom (now (regs .entry))) (inputsOf (withSoak m (now (soak .entry)))) (choiceOf c)) ⌝ }
 {
     let auto = is_automatic(regs);
     if auto {
-        return reselected(soak, regs, best_of(soak, keys), c);
+        return reselected(soak, regs, windows, place, best_of(soak, keys), c);
     }
     manual(soak, regs)
 }

@@ -30,6 +30,7 @@ pub struct Core {
     pub tally: Tally,
     pub choice: Choice,
     pub holding: u32,
+    pub place: u32,
     pub pll: Loop,
 }
 
@@ -73,10 +74,11 @@ pub fn tick(
     lasts: &[u16; 8],
     regs: &[u8; 27],
     keys: &[u16; 9],
+    windows: &[u32; 16],
     sums: &mut [i64; 64],
     building: &mut [i64; 64],
 ) -> Core
-    ensures { λ r. ⌜ across level decay active (now (frequency .entry)) remainder soak (λ before after. (backup : List ℤ) → numbers (now (sizes .entry)) (now (highs .entry)) (now (lows .entry)) (now (lasts .entry)) ≡ numbersOf (before .buckets) → length (now (sums .entry)) ≡ 64 → now (keys .entry) ≡ keysFrom (settingsFrom (now (regs .entry))) → stateOf r after (now (regs .entry)) (now (sums .exit)) (now (building .exit)) backup ≡ rules.ticked mask lock x (stateOf k before (now (regs .entry)) (now (sums .entry)) (now (building .entry)) backup)) ⌝ }
+    ensures { λ r. ⌜ across level decay active (now (frequency .entry)) remainder soak (λ before after. (backup : List ℤ) → numbers (now (sizes .entry)) (now (highs .entry)) (now (lows .entry)) (now (lasts .entry)) ≡ numbersOf (before .buckets) → length (now (sums .entry)) ≡ 64 → now (keys .entry) ≡ keysFrom (settingsFrom (now (regs .entry))) → stateOf r after (now (regs .entry)) (now (windows .entry)) (now (sums .exit)) (now (building .exit)) backup ≡ rules.ticked mask lock x (stateOf k before (now (regs .entry)) (now (windows .entry)) (now (sums .entry)) (now (building .entry)) backup)) ⌝ }
 {
     // steps 1 and 2
     monitor::watched(
@@ -97,7 +99,7 @@ pub fn tick(
     alarmed(k.choice.selected, driven, remainder, soak);
     // step 4, on a copy of the soaks: of a row that lies at hand eight are compared side by side
     let soaks = *soak;
-    let choice = selection::chosen(&soaks, regs, keys, k.choice);
+    let choice = selection::chosen(&soaks, regs, keys, windows, k.place, k.choice);
     let steered = pll::steered(
         registers::is_automatic(regs),
         registers::setting(regs, 0x41),
@@ -107,6 +109,7 @@ pub fn tick(
         driven,
     );
     let holding = pll::holding_after(k.pll.mode, steered.mode, k.holding);
+    let place = week::advanced(k.place);
     // step 5
     let tally = history::recorded(
         registers::setting(regs, 0x25),
@@ -121,6 +124,7 @@ pub fn tick(
         tally: tally,
         choice: choice,
         holding: holding,
+        place: place,
         pll: steered,
     }
 }

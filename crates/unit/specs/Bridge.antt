@@ -12,17 +12,18 @@ use Rattle.tick.specs.Bridge.{stateOf}
 use Rattle.tick.specs.declared.Core.{Core}
 use Rattle.unit.specs.declared.Unit as code
 
--- the numbers by value, and what lies in arrays: the inputs' rows, the registers, the sums in use, those of the building history and the backup's
+-- the numbers by value, and what lies in arrays: the inputs' rows, the registers, the windows, the sums in use, those of the building history and the backup's
 pub record Stored : Type 0 where
   pub core : Core
   pub rows : Monitors
   pub regs : List ℕ
+  pub windows : List ℕ
   pub sums : List ℤ
   pub building : List ℤ
   pub backup : List ℤ
 
 abbrev pub meaning : Stored → State
-meaning s = stateOf (s .core) (s .rows) (s .regs) (s .sums) (s .building) (s .backup)
+meaning s = stateOf (s .core) (s .rows) (s .regs) (s .windows) (s .sums) (s .building) (s .backup)
 
 -- What event e does to what is stored: number n and the state are the rules', and an event that is turned down leaves every stored number as it was.
 pub record Gives (s : Stored) (e : rules.Event) (n : ℕ) (t : Stored) : Type 0 where
@@ -31,15 +32,16 @@ pub record Gives (s : Stored) (e : rules.Event) (n : ℕ) (t : Stored) : Type 0 
 
 -- a core with another tally
 abbrev pub withTally : Core → Tally → Core
-withTally k t = record { tally = t; choice = k .choice; holding = k .holding; pll = k .pll }
+withTally k t = record { tally = t; choice = k .choice; holding = k .holding; place = k .place; pll = k .pll }
 
 -- the parts of a whole unit
 abbrev pub partsOf : code.Unit → Stored
 partsOf u =
     record {
-      core = record { tally = u .history .tally; choice = u .choice; holding = u .holding; pll = u .pll };
+      core = record { tally = u .history .tally; choice = u .choice; holding = u .holding; place = u .week .place; pll = u .pll };
       rows = u .monitors;
       regs = u .regs;
+      windows = u .week .windows;
       sums = u .history .sums;
       building = u .history .building;
       backup = u .history .backup;

@@ -32,6 +32,7 @@ use inputs::Monitors;
 use pll::Loop;
 use selection::Choice;
 use tick::Core;
+use week::Week;
 
 // The four events.
 pub enum Event {
@@ -80,10 +81,11 @@ fn on_tick(
     lasts: &[u16; 8],
     regs: &[u8; 27],
     keys: &[u16; 9],
+    windows: &[u32; 16],
     sums: &mut [i64; 64],
     building: &mut [i64; 64],
 ) -> Stepped
-    ensures { λ r. ⌜ rows.across level decay active (now (frequency .entry)) remainder soak (λ before after. (backup : List ℤ) → numbers (now (sizes .entry)) (now (highs .entry)) (now (lows .entry)) (now (lasts .entry)) ≡ numbersOf (before .buckets) → length (now (sums .entry)) ≡ 64 → now (keys .entry) ≡ keysFrom (settingsFrom (now (regs .entry))) → Gives (record { core = k; rows = before; regs = now (regs .entry); sums = now (sums .entry); building = now (building .entry); backup = backup }) (events.tick mask lock x) (r .refusal) (record { core = r .core; rows = after; regs = now (regs .entry); sums = now (sums .exit); building = now (building .exit); backup = backup })) ⌝ }
+    ensures { λ r. ⌜ rows.across level decay active (now (frequency .entry)) remainder soak (λ before after. (backup : List ℤ) → numbers (now (sizes .entry)) (now (highs .entry)) (now (lows .entry)) (now (lasts .entry)) ≡ numbersOf (before .buckets) → length (now (sums .entry)) ≡ 64 → now (keys .entry) ≡ keysFrom (settingsFrom (now (regs .entry))) → Gives (record { core = k; rows = before; regs = now (regs .entry); windows = now (windows .entry); sums = now (sums .entry); building = now (building .entry); backup = backup }) (events.tick mask lock x) (r .refusal) (record { core = r .core; rows = after; regs = now (regs .entry); windows = now (windows .entry); sums = now (sums .exit); building = now (building .exit); backup = backup })) ⌝ }
 {
     let ok = in_range(x);
     if ok {
@@ -104,6 +106,7 @@ fn on_tick(
             lasts,
             regs,
             keys,
+            windows,
             sums,
             building,
         );
@@ -127,7 +130,7 @@ fn in_steps(limit: u8) -> u16
 
 // A measurement, or refusal 6: "input not 1 to 8".
 fn on_measurement(i: u8, offset: i16, frequency: &mut [u16; 8], regs: &[u8; 27]) -> u8
-    ensures { λ r. ⌜ ((k : core.Core) (m : stored.Monitors) (sums building backup : List ℤ) → Gives (record { core = k; rows = withFrequency m (now (frequency .entry)); regs = now (regs .entry); sums = sums; building = building; backup = backup }) (events.measurement i offset) r (record { core = k; rows = withFrequency m (now (frequency .exit)); regs = now (regs .entry); sums = sums; building = building; backup = backup })) ⌝ }
+    ensures { λ r. ⌜ ((k : core.Core) (m : stored.Monitors) (windows : List ℕ) (sums building backup : List ℤ) → Gives (record { core = k; rows = withFrequency m (now (frequency .entry)); regs = now (regs .entry); windows = windows; sums = sums; building = building; backup = backup }) (events.measurement i offset) r (record { core = k; rows = withFrequency m (now (frequency .exit)); regs = now (regs .entry); windows = windows; sums = sums; building = building; backup = backup })) ⌝ }
 {
     let ok = one_to_eight(i);
     if ok {
@@ -141,7 +144,7 @@ fn on_measurement(i: u8, offset: i16, frequency: &mut [u16; 8], regs: &[u8; 27])
 
 // A Hit, or refusal 5: "Hit with no reference 1 to 8 selected".
 fn on_hit(k: Core, soak: &mut [u16; 8]) -> Stepped
-    ensures { λ r. ⌜ ((m : stored.Monitors) (regs : List ℕ) (sums building backup : List ℤ) → length sums ≡ 64 → Gives (record { core = k; rows = withSoak m (now (soak .entry)); regs = regs; sums = sums; building = building; backup = backup }) events.hit (r .refusal) (record { core = r .core; rows = withSoak m (now (soak .exit)); regs = regs; sums = sums; building = building; backup = backup })) ⌝ }
+    ensures { λ r. ⌜ ((m : stored.Monitors) (regs windows : List ℕ) (sums building backup : List ℤ) → length sums ≡ 64 → Gives (record { core = k; rows = withSoak m (now (soak .entry)); regs = regs; windows = windows; sums = sums; building = building; backup = backup }) events.hit (r .refusal) (record { core = r .core; rows = withSoak m (now (soak .exit)); regs = regs; windows = windows; sums = sums; building = building; backup = backup })) ⌝ }
 {
     let ok = one_to_eight(k.choice.selected);
     if ok {
@@ -155,6 +158,7 @@ fn on_hit(k: Core, soak: &mut [u16; 8]) -> Stepped
                 tally: t,
                 choice: none,
                 holding: 0,
+                place: k.place,
                 pll: p,
             },
         };
@@ -175,7 +179,7 @@ fn write_accepted(
     building: &mut [i64; 64],
     backup: &mut [i64; 64],
 ) -> Tally
-    ensures { λ r. ⌜ ((k : core.Core) (m : stored.Monitors) → inMap a ≡ true → stateOf (withTally k r) m (now (regs .exit)) (now (sums .exit)) (now (building .exit)) (now (backup .exit)) ≡ afterWrite a v (stateOf (withTally k t) m (now (regs .entry)) (now (sums .entry)) (now (building .entry)) (now (backup .entry)))) ⌝ }
+    ensures { λ r. ⌜ ((k : core.Core) (m : stored.Monitors) (windows : List ℕ) → inMap a ≡ true → stateOf (withTally k r) m (now (regs .exit)) windows (now (sums .exit)) (now (building .exit)) (now (backup .exit)) ≡ afterWrite a v (stateOf (withTally k t) m (now (regs .entry)) windows (now (sums .entry)) (now (building .entry)) (now (backup .entry)))) ⌝ }
 {
     if a == 0x26 {
         return history::commanded(v, t, sums, building, backup);
@@ -195,7 +199,7 @@ fn on_write(
     building: &mut [i64; 64],
     backup: &mut [i64; 64],
 ) -> Stepped
-    ensures { λ r. ⌜ ((m : stored.Monitors) → length (now (sums .entry)) ≡ 64 → length (now (backup .entry)) ≡ 64 → Gives (record { core = k; rows = m; regs = now (regs .entry); sums = now (sums .entry); building = now (building .entry); backup = now (backup .entry) }) (events.write a v) (r .refusal) (record { core = r .core; rows = m; regs = now (regs .exit); sums = now (sums .exit); building = now (building .exit); backup = now (backup .exit) })) ⌝ }
+    ensures { λ r. ⌜ ((m : stored.Monitors) (windows : List ℕ) → length (now (sums .entry)) ≡ 64 → length (now (backup .entry)) ≡ 64 → Gives (record { core = k; rows = m; regs = now (regs .entry); windows = windows; sums = now (sums .entry); building = now (building .entry); backup = now (backup .entry) }) (events.write a v) (r .refusal) (record { core = r .core; rows = m; regs = now (regs .exit); windows = windows; sums = now (sums .exit); building = now (building .exit); backup = now (backup .exit) })) ⌝ }
     ensures { λ _. ⌜ (now (keys .entry) ≡ keysFrom (settingsFrom (now (regs .entry))) → now (keys .exit) ≡ keysFrom (settingsFrom (now (regs .exit)))) ⌝ }
 {
     let number = writes::write_refusal(
@@ -241,11 +245,12 @@ pub fn step(
     lasts: &[u16; 8],
     regs: &mut [u8; 27],
     keys: &mut [u16; 9],
+    windows: &[u32; 16],
     sums: &mut [i64; 64],
     building: &mut [i64; 64],
     backup: &mut [i64; 64],
 ) -> Stepped
-    ensures { λ r. ⌜ across level decay active frequency remainder soak regs sums building backup (λ before after. numbers (now (sizes .entry)) (now (highs .entry)) (now (lows .entry)) (now (lasts .entry)) ≡ numbersOf (before k .rows .buckets) → now (keys .entry) ≡ keysFrom (settingsFrom (now (regs .entry))) → Gives (before k) (eventOf e) (r .refusal) (after (r .core))) ⌝ }
+    ensures { λ r. ⌜ across level decay active frequency remainder soak regs (now (windows .entry)) sums building backup (λ before after. numbers (now (sizes .entry)) (now (highs .entry)) (now (lows .entry)) (now (lasts .entry)) ≡ numbersOf (before k .rows .buckets) → now (keys .entry) ≡ keysFrom (settingsFrom (now (regs .entry))) → Gives (before k) (eventOf e) (r .refusal) (after (r .core))) ⌝ }
     ensures { λ _. ⌜ (now (keys .entry) ≡ keysFrom (settingsFrom (now (regs .entry))) → now (keys .exit) ≡ keysFrom (settingsFrom (now (regs .exit)))) ⌝ }
 {
     places(*sums);
@@ -268,6 +273,7 @@ pub fn step(
             lasts,
             regs,
             keys,
+            windows,
             sums,
             building,
         ),
@@ -302,7 +308,7 @@ pub fn write(
     building: &mut [i64; 64],
     backup: &mut [i64; 64],
 ) -> Stepped
-    ensures { λ r. ⌜ ((m : stored.Monitors) → Gives (record { core = k; rows = m; regs = now (regs .entry); sums = now (sums .entry); building = now (building .entry); backup = now (backup .entry) }) (events.write a v) (r .refusal) (record { core = r .core; rows = m; regs = now (regs .exit); sums = now (sums .exit); building = now (building .exit); backup = now (backup .exit) })) ⌝ }
+    ensures { λ r. ⌜ ((m : stored.Monitors) (windows : List ℕ) → Gives (record { core = k; rows = m; regs = now (regs .entry); windows = windows; sums = now (sums .entry); building = now (building .entry); backup = now (backup .entry) }) (events.write a v) (r .refusal) (record { core = r .core; rows = m; regs = now (regs .exit); windows = windows; sums = now (sums .exit); building = now (building .exit); backup = now (backup .exit) })) ⌝ }
     ensures { λ _. ⌜ (now (keys .entry) ≡ keysFrom (settingsFrom (now (regs .entry))) → now (keys .exit) ≡ keysFrom (settingsFrom (now (regs .exit)))) ⌝ }
 {
     places(*sums);
@@ -312,13 +318,14 @@ pub fn write(
 
 // ---- the unit
 
-// The whole state: the inputs' rows and the sets of bucket numbers, the history, the choice, the ticks in Holdover, the PLL, and the registers.
+// The whole state: the inputs' rows and the sets of bucket numbers, the history, the choice, the ticks in Holdover, the week, the PLL, and the registers.
 #[repr(C)]
 pub struct Unit {
     pub monitors: Monitors,
     pub history: History,
     pub choice: Choice,
     pub holding: u32,
+    pub week: Week,
     pub pll: Loop,
     pub regs: [u8; 27],
 }
@@ -331,11 +338,13 @@ pub fn fresh_with(regs: [u8; 27]) -> Unit
     let h = history::fresh_history();
     let choice = selection::settled(0);
     let p = pll::fresh_loop();
+    let w = week::fresh_week();
     Unit {
         monitors: m,
         history: h,
         choice: choice,
         holding: 0,
+        week: w,
         pll: p,
         regs: regs,
     }
@@ -360,6 +369,7 @@ pub fn core_of(u: Unit) -> Core
         tally: tally,
         choice: choice,
         holding: u.holding,
+        place: u.week.place,
         pll: p,
     }
 }
@@ -394,6 +404,7 @@ pub fn handle(e: Event, u: Unit) -> Outcome
     let mut building = h.building;
     let mut backup = h.backup;
     let mut keys = candidates::keys_of(&regs);
+    let windows = u.week.windows;
     let s = step(
         e,
         core_of(u),
@@ -409,6 +420,7 @@ pub fn handle(e: Event, u: Unit) -> Outcome
         &lasts,
         &mut regs,
         &mut keys,
+        &windows,
         &mut sums,
         &mut building,
         &mut backup,
@@ -437,6 +449,10 @@ pub fn handle(e: Event, u: Unit) -> Outcome
             },
             choice: choice,
             holding: c.holding,
+            week: Week {
+                place: c.place,
+                windows: windows,
+            },
             pll: p,
             regs: regs,
         },

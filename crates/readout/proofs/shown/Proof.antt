@@ -20,14 +20,14 @@ use Rattle.readout.proofs.shown.Tie as tie
 -- what the core says of the unit that it was taken from
 whole : (c : tie.After-core-of) (f : State → ℕ)
     → let u = c .before .before .before .before .args .u in
-    f (stateOf (c .core-of .result) (u .monitors) (u .regs) (u .history .sums) (u .history .building) (u .history .backup)) ≡ f (modelOf u)
+    f (stateOf (c .core-of .result) (u .monitors) (u .regs) (u .week .windows) (u .history .sums) (u .history .building) (u .history .backup)) ≡ f (modelOf u)
 whole c f =
     let u = c .before .before .before .before .args .u in
-    ap (λ (k : Core). f (stateOf k (u .monitors) (u .regs) (u .history .sums) (u .history .building) (u .history .backup))) (c .core-of .ensures)
+    ap (λ (k : Core). f (stateOf k (u .monitors) (u .regs) (u .week .windows) (u .history .sums) (u .history .building) (u .history .backup))) (c .core-of .ensures)
 
 -- the sums in use and the backup's have their 64 places
 places : (c : tie.Start) → (length (c .args .u .history .sums) ≡ 64) × (length (c .args .u .history .backup) ≡ 64)
-places c = (search needs, search needs)
+places c = let history = c .good .0 .1 .1 .1 .0 in (search (needs, history), search (needs, history))
 
 -- a byte of the bits shown, which are 0 unless Ready
 part : (ready : Bool) (bits d : ℕ) {n : ℕ} → 0 / d % 256 ≡ 0 → n ≡ (if ready then bits else 0) → n / d % 256 ≡ (if ready then bits / d % 256 else 0)
@@ -43,7 +43,7 @@ unfolding reading.shown
 returns c =
     let k = c .before .before in
     let u = k .before .before .before .before .args .u in
-    rw (c .before .if1 .taken) (c .hours .ensures (u .monitors) (u .regs) (u .history .sums) (u .history .building) (u .history .backup) ∙ whole k reading.hours)
+    rw (c .before .if1 .taken) (c .hours .ensures (u .monitors) (u .regs) (u .week .windows) (u .history .sums) (u .history .building) (u .history .backup) ∙ whole k reading.hours)
 
 returns-2 : tie.Need-returns-2
 unfolding reading.shown reading.qualifiedMask
@@ -58,7 +58,7 @@ unfolding reading.shown
 returns-4 c =
     let k = c .before .before .before .before .before in
     let u = k .before .before .before .before .args .u in
-    rw (c .before .if4 .taken) (c .state-byte .ensures (u .monitors) (u .regs) (u .history .sums) (u .history .building) (u .history .backup) ∙ whole k reading.stateByte)
+    rw (c .before .if4 .taken) (c .state-byte .ensures (u .monitors) (u .regs) (u .week .windows) (u .history .sums) (u .history .building) (u .history .backup) ∙ whole k reading.stateByte)
 
 returns-5 : tie.Need-returns-5
 unfolding reading.shown
@@ -67,7 +67,7 @@ returns-5 c =
     let u = k .before .before .before .before .args .u in
     let held = places (k .before .before .before .before) in
     rw (c .before .if5 .taken)
-    (c .status-byte .ensures (u .monitors) (u .regs) (u .history .sums) (u .history .building) (u .history .backup) (held .0) (held .1) ∙ whole k reading.statusByte)
+    (c .status-byte .ensures (u .monitors) (u .regs) (u .week .windows) (u .history .sums) (u .history .building) (u .history .backup) (held .0) (held .1) ∙ whole k reading.statusByte)
 
 returns-6 : tie.Need-returns-6
 unfolding reading.shown reading.valueByte

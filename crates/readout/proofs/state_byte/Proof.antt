@@ -16,7 +16,7 @@ add-result c = omega (arith, c .before .mode-number .ensures, number-mode (c .be
 
 returns : tie.Need-returns
 unfolding reading.stateByte
-returns c = λ m regs sums building backup. ap (λ (n : ℕ). 16 * n + c .before .before .args .k .choice .selected % 16) (c .before .mode-number .ensures)
+returns c = λ m regs windows sums building backup. ap (λ (n : ℕ). 16 * n + c .before .before .args .k .choice .selected % 16) (c .before .mode-number .ensures)
 
 pub state-byte-spec : {M : Type 1} → statement M
 state-byte-spec = tie.close (tie.spec (search needs) mul-result add-result returns)

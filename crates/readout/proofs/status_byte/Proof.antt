@@ -17,7 +17,7 @@ if-not false = refl
 returns : tie.Need-returns
 unfolding reading.statusByte
 returns c =
-    λ m regs sums building backup hs hb.
+    λ m regs windows sums building backup hs hb.
     let k = c .before .before .before .before .before .before .before .before .before .before .args .k in
     let alarm = c .before .before .before .before .either .ensures ∙ (λ i. c .before .before .before .before .before .before .before .before .before .is-holdover .ensures i || c .before .before .before .before .before .before .before .before .is-free-run .ensures i) in
     let unlocked = ap (λ (b : Bool). if not b then 2 else 0) (c .before .before .before .before .before .before .before .is-locked .ensures) ∙ if-not (is locked (modeOf (k .pll .mode))) in

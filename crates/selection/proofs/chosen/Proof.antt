@@ -2,6 +2,8 @@
 use mathlib.Core.Path.{ap, _∙_}
 use borrow.Author.Needs.{needs}
 use Rattle.rules.specs.Registers.{settingsFrom}
+use Rattle.rules.specs.Week.{busy}
+use Rattle.week.specs.Bridge.{windowsOf}
 use Rattle.rules.specs.Selection.{reselected, chosen}
 use Rattle.inputs.specs.Bridge.{inputsOf, withSoak}
 use Rattle.selection.specs.Bridge.{choiceOf}
@@ -15,7 +17,7 @@ returns c m e =
     let S = settingsFrom (a .regs .now) in
     rw (← c .before .before .before .is-automatic .ensures, c .before .before .if1 .taken)
     (c .reselected .ensures m
-    ∙ ap (λ b. reselected S (inputsOf (withSoak m (a .soak .now))) b (choiceOf (a .c))) (c .before .best-of .ensures S m e))
+    ∙ ap (λ b. reselected (busy (windowsOf (a .windows .now)) (a .place)) S (inputsOf (withSoak m (a .soak .now))) b (choiceOf (a .c))) (c .before .best-of .ensures S m e))
 
 returns-2 : tie.Need-returns-2
 unfolding chosen

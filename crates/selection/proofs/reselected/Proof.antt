@@ -6,6 +6,8 @@ use borrow.Author.Tests.{eq-eqb, ne-eqb}
 use Rattle.rules.specs.Words.{if_then_else_}
 use Rattle.rules.specs.Selection.{candidate, settled, reverted, reselected}
 use Rattle.rules.specs.Registers.{settingsFrom}
+use Rattle.rules.specs.Week.{busy}
+use Rattle.week.specs.Bridge.{windowsOf}
 use Rattle.rules.specs.Settings.{delayTicks, revertive}
 use Rattle.inputs.specs.Bridge.{inputsOf, withSoak}
 use Rattle.selection.specs.Bridge.{choiceOf}
@@ -30,7 +32,7 @@ returns-2 c m =
     let a = c .before .before .before .before .before .before .before .before .before .args in
     let reverts : revertive (settingsFrom (a .regs .now)) (a .c .selected) ≡ true = sym (c .before .before .before .before .is-revertive .ensures) ∙ c .before .before .before .if3 .taken in
     rw (← c .before .before .before .before .before .before .is-candidate .ensures m, c .before .before .before .before .before .if2 .taken, ne-eqb _ _ (c .before .before .before .before .before .before .before .if1 .left), reverts)
-    (c .reverted .ensures ∙ ap (λ n. reverted n (a .b) (choiceOf (a .c))) (c .before .delay-ticks .ensures ∙ ap delayTicks (c .before .before .setting .ensures)))
+    (c .reverted .ensures ∙ ap (λ n. reverted (busy (windowsOf (a .windows .now)) (a .place)) n (a .b) (choiceOf (a .c))) (c .before .delay-ticks .ensures ∙ ap delayTicks (c .before .before .setting .ensures)))
 
 returns-3 : tie.Need-returns-3
 unfolding reselected

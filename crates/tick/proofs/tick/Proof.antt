@@ -9,7 +9,8 @@ use Rattle.rules.specs.Monitors.{lockAlarmed}
 use Rattle.rules.specs.Pll.{locked, is, alarmDue}
 use Rattle.rules.specs.Registers.{settingsFrom}
 use Rattle.rules.specs.Selection.{Inputs, altered, chosen, steered}
-use Rattle.rules.specs.Tick.{watched, watchedAfter, inputsAfter, loopAfter, steps1to4, step5, holdingAfter, ticked}
+use Rattle.rules.specs.Tick.{watched, watchedAfter, inputsAfter, loopAfter, weekAfter, steps1to4, step5, holdingAfter, ticked}
+use Rattle.rules.specs.Week.{busy}
 use Rattle.rules.specs.Words.{if_then_else_, isTracked}
 use Rattle.buckets.specs.Bridge.{bucketAt, bucketsOf}
 use Rattle.buckets.specs.declared.Buckets.{Buckets}
@@ -18,6 +19,7 @@ use Rattle.inputs.specs.declared.Monitors.{Monitors}
 use Rattle.monitor.proofs.Rows.{watched-by}
 use Rattle.history.specs.Bridge.{historyOf}
 use Rattle.pll.specs.Bridge.{modeOf}
+use Rattle.week.specs.Bridge.{windowsOf}
 use Rattle.selection.specs.Bridge.{choiceOf}
 use Rattle.tick.proofs.tick.Statement.{statement}
 use Rattle.tick.proofs.tick.Tie as tie
@@ -37,10 +39,11 @@ watchedRows c buckets =
     }
 
 returns : tie.Need-returns
-unfolding watchedAfter inputsAfter loopAfter steps1to4 step5 ticked
+unfolding watchedAfter inputsAfter loopAfter weekAfter steps1to4 step5 ticked
 returns c buckets backup lanes h e =
     let kept = c .before .before .before in
-    let held = kept .before .before in
+    let placed = kept .before .before in
+    let held = placed .before in
     let turned = held .before in
     let ready = turned .before in
     let op = ready .before in
@@ -71,7 +74,7 @@ returns c buckets backup lanes h e =
     let inputs = alarms .alarmed .ensures rows
     ∙ (λ i. if isTracked selected && alarmDue (loop i) then altered lockAlarmed selected (seen i) else seen i) in
     let after = withLockAlarms rows (alarms .alarmed .last .1 .1 .0) (alarms .alarmed .last .1 .1 .1 .0) in
-    let choice = choosing .chosen .ensures after e ∙ ap (λ (l : Inputs). chosen set l (choiceOf (k .choice))) inputs in
+    let choice = choosing .chosen .ensures after e ∙ ap (λ (l : Inputs). chosen (busy (windowsOf (now (a .windows))) (k .place)) set l (choiceOf (k .choice))) inputs in
     let steering = turned .steered .ensures
     ∙ (λ i. steered (auto .is-automatic .ensures i) (op .setting .ensures i) (ready .is-ready .ensures (now (a .sums)) (now (a .building)) backup h i) selected (choice i .selected) (loop i)) in
     let holding = held .holding-after .ensures ∙ (λ i. holdingAfter (modeOf (k .pll .mode)) (steering i .mode) (k .holding)) in
@@ -86,12 +89,14 @@ returns c buckets backup lanes h e =
       choice = choice i;
       history = history i;
       holding = holding i;
+      week = record { place = placed .advanced .ensures i; windows = windowsOf (now (a .windows)) };
     }
 
 pub tick-spec : {M : Type 1} → statement M
 tick-spec =
     tie.close
     (tie.spec
+    (λ c κs. tt)
     (λ c κs. tt)
     (λ c κs. tt)
     (λ c κs. tt)

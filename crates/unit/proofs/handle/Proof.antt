@@ -6,12 +6,12 @@ use Rattle.unit.proofs.handle.Tie as tie
 returns : tie.Need-returns
 returns c =
     let stepped = c .before .before .before .before in
-    let parts = stepped .before .before .before .before .before .before .before .before .before .before .before .before .before .before .before .before in
-    let keyed = parts .before in
+    let parts = stepped .before .before .before .before .before .before .before .before .before .before .before .before .before .before .before .before .before in
+    let keyed = parts .before .before in
     let numbered = keyed .before .before .before .before .before .before .before .before .before .before .before in
     let u = numbered .before .before .before .before .before .before .before .before .before .args .u in
     same-start
-    (λ i. record { core = parts .core-of .ensures i; rows = u .monitors; regs = u .regs; sums = u .history .sums; building = u .history .building; backup = u .history .backup })
+    (λ i. record { core = parts .core-of .ensures i; rows = u .monitors; regs = u .regs; windows = u .week .windows; sums = u .history .sums; building = u .history .building; backup = u .history .backup })
     (stepped .step .ensures .0 (u .monitors .buckets) (numbered .numbers-of .ensures) (keyed .keys-of .ensures))
 
 pub handle-spec : {M : Type 1} → statement M

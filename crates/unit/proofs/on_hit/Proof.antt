@@ -7,13 +7,14 @@ use Rattle.rules.specs.Registers.{settingsFrom}
 use Rattle.rules.specs.Run.{effect, afterHit}
 use Rattle.rules.specs.Selection.{unselectedLoop}
 use Rattle.buckets.specs.Bridge.{bucketsOf}
+use Rattle.week.specs.Bridge.{weekOf}
 use Rattle.unit.proofs.Given.{accepted, turned-down}
 use Rattle.unit.proofs.on_hit.Statement.{statement}
 use Rattle.unit.proofs.on_hit.Tie as tie
 
 returns : tie.Need-returns
 unfolding refusal effect afterHit
-returns c m regs sums building backup h =
+returns c m regs windows sums building backup h =
     let loop = c .before .before in
     let ready = loop .before in
     let hitting = ready .before in
@@ -27,11 +28,12 @@ returns c m regs sums building backup h =
       choice = c .before .settled .ensures i;
       history = c .open-emptied .ensures sums building backup i;
       holding = 0;
+      week = weekOf (tested .before .before .args .k .place) windows;
     })
 
 returns-2 : tie.Need-returns-2
 unfolding refusal
-returns-2 c m regs sums building backup h = turned-down _ hit (rw (← c .before .one-to-eight .ensures, c .if1 .left) refl) (λ z. omega arith)
+returns-2 c m regs windows sums building backup h = turned-down _ hit (rw (← c .before .one-to-eight .ensures, c .if1 .left) refl) (λ z. omega arith)
 
 pub on-hit-spec : {M : Type 1} → statement M
 on-hit-spec =

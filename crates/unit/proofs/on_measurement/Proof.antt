@@ -15,13 +15,14 @@ use Rattle.buckets.specs.Bridge.{bucketsOf}
 use Rattle.inputs.specs.Bridge.{inputsOf, withFrequency}
 use Rattle.pll.specs.Bridge.{loopOf}
 use Rattle.selection.specs.Bridge.{choiceOf}
+use Rattle.week.specs.Bridge.{weekOf}
 use Rattle.unit.proofs.Given.{accepted, turned-down}
 use Rattle.unit.proofs.on_measurement.Statement.{statement}
 use Rattle.unit.proofs.on_measurement.Tie as tie
 
 returns : tie.Need-returns
 unfolding refusal effect afterMeasurement
-returns c k m sums building backup =
+returns c k m windows sums building backup =
     let second = c .before .before in
     let first = second .before .before in
     let tested = first .before .before in
@@ -40,11 +41,12 @@ returns c k m sums building backup =
       choice = choiceOf (k .choice);
       history = historyOf (k .tally) sums building backup;
       holding = k .holding;
+      week = weekOf (k .place) windows;
     })
 
 returns-2 : tie.Need-returns-2
 unfolding refusal
-returns-2 c k m sums building backup =
+returns-2 c k m windows sums building backup =
     let a = c .before .before .args in
     turned-down _ (measurement (a .i) (a .offset)) (rw (← c .before .one-to-eight .ensures, c .if1 .left) refl) (λ z. omega arith)
 

@@ -34,6 +34,7 @@ returns c buckets backup lanes h e =
             buckets = buckets;
           };
       regs = now (a .regs);
+      windows = now (a .windows);
       sums = now (a .sums);
       building = now (a .building);
       backup = backup;

@@ -53,7 +53,7 @@ returns-2 c =
       (λ buckets lanes keyed.
           rw (told .e2 .given .1)
           (same-event (λ i. measurement (told .e2 .given .0 .0) (offset known i))
-          (c .on-measurement .ensures (a .k) (rows start buckets) (now (a .sums)) (now (a .building)) (now (a .backup))))),
+          (c .on-measurement .ensures (a .k) (rows start buckets) (now (a .windows)) (now (a .sums)) (now (a .building)) (now (a .backup))))),
       (λ keyed. keyed),
     )
 
@@ -63,7 +63,7 @@ returns-3 c =
     let sized = told .before .before .before .before in
     let start = sized .before .before in
     let a = start .args in
-    ((λ buckets lanes keyed. rw (told .enum-told .given .1) (c .on-hit .ensures (rows start buckets) (now (a .regs)) (now (a .sums)) (now (a .building)) (now (a .backup)) (sized .places .ensures))), (λ keyed. keyed))
+    ((λ buckets lanes keyed. rw (told .enum-told .given .1) (c .on-hit .ensures (rows start buckets) (now (a .regs)) (now (a .windows)) (now (a .sums)) (now (a .building)) (now (a .backup)) (sized .places .ensures))), (λ keyed. keyed))
 
 returns-4 : tie.Need-returns-4
 returns-4 c =
@@ -72,7 +72,7 @@ returns-4 c =
     let second = told .before .before in
     let sized = second .before .before in
     let start = sized .before .before in
-    ((λ buckets lanes keyed. rw (told .e3 .given .1) (w .on-write .ensures .0 (rows start buckets) (sized .places .ensures) (second .places2 .ensures))), w .on-write .ensures .1)
+    ((λ buckets lanes keyed. rw (told .e3 .given .1) (w .on-write .ensures .0 (rows start buckets) (now (start .args .windows)) (sized .places .ensures) (second .places2 .ensures))), w .on-write .ensures .1)
 
 pub step-spec : {M : Type 1} → statement M
 step-spec =
