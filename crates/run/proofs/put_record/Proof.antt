@@ -22,13 +22,13 @@ slice-write-out-4 c = simp length-set (omega arith)
 
 returns : tie.Need-returns
 unfolding qualifiedMask
-returns c m regs sums building backup s b =
+returns c m regs windows sums building backup s b =
     let start = c .before .before .before .before in
     let a = start .args in
     let rows = withSoak m (now (a .soak)) in
-    let state = c .before .state-byte .ensures rows regs sums building backup in
-    let status = c .before .before .status-byte .ensures rows regs sums building backup s b in
-    rw (record-is (a .refusal) (stateOf (a .k) rows regs sums building backup), ← state, ← status, ← c .qualified-mask .ensures m)
+    let state = c .before .state-byte .ensures rows regs windows sums building backup in
+    let status = c .before .before .status-byte .ensures rows regs windows sums building backup s b in
+    rw (record-is (a .refusal) (stateOf (a .k) rows regs windows sums building backup), ← state, ← status, ← c .qualified-mask .ensures m)
     (four _ _ _ _ (now (a .out)) (start .pre))
 
 pub put-record-spec : {M : Type 1} → statement M

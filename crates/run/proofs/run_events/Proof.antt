@@ -26,20 +26,20 @@ use Rattle.run.proofs.run_events.Statement.{statement}
 use Rattle.run.proofs.run_events.Tie as tie
 
 -- the state that lies in these arrays
-abbrev lying : Buckets → Core → List ℕ → List ℕ → List ℕ → List ℕ → List ℕ → List ℕ → List ℕ → List ℤ → List ℤ → List ℤ → State
-lying b k level decay active frequency remainder soak regs sums building backup =
-    stateOf k (record { level = level; decay = decay; active = active; frequency = frequency; remainder = remainder; soak = soak; buckets = b }) regs sums building backup
+abbrev lying : Buckets → List ℕ → Core → List ℕ → List ℕ → List ℕ → List ℕ → List ℕ → List ℕ → List ℕ → List ℤ → List ℤ → List ℤ → State
+lying b windows k level decay active frequency remainder soak regs sums building backup =
+    stateOf k (record { level = level; decay = decay; active = active; frequency = frequency; remainder = remainder; soak = soak; buckets = b }) regs windows sums building backup
 
 abbrev Inv-loop : tie.InvT-loop
-Inv-loop part n regs₀ keys₀ sums₀ building₀ backup₀ out₀ level₀ decay₀ active₀ frequency₀ remainder₀ soak₀ sizes highs lows lasts k₀ i₀ regs keys sums building backup out level decay active frequency remainder soak k i =
+Inv-loop part n regs₀ keys₀ windows sums₀ building₀ backup₀ out₀ level₀ decay₀ active₀ frequency₀ remainder₀ soak₀ sizes highs lows lasts k₀ i₀ regs keys sums building backup out level decay active frequency remainder soak k i =
     (i ≤ n)
     × (keys ≡ keysFrom (settingsFrom regs))
     × ((b : Buckets) → numbers sizes highs lows lasts ≡ numbersOf b
-    → Going (records (lying b k₀ level₀ decay₀ active₀ frequency₀ remainder₀ soak₀ regs₀ sums₀ building₀ backup₀) (eventsOf n part)) out₀ (4 * i)
-    (lying b k level decay active frequency remainder soak regs sums building backup) (eventsOf (n - i) (drop (8 * i) part)) out)
+    → Going (records (lying b windows k₀ level₀ decay₀ active₀ frequency₀ remainder₀ soak₀ regs₀ sums₀ building₀ backup₀) (eventsOf n part)) out₀ (4 * i)
+    (lying b windows k level decay active frequency remainder soak regs sums building backup) (eventsOf (n - i) (drop (8 * i) part)) out)
 
 abbrev μ-loop : tie.MeasureT-loop
-μ-loop part n regs₀ keys₀ sums₀ building₀ backup₀ out₀ level₀ decay₀ active₀ frequency₀ remainder₀ soak₀ sizes highs lows lasts k₀ i₀ regs keys sums building backup out level decay active frequency remainder soak k i =
+μ-loop part n regs₀ keys₀ windows sums₀ building₀ backup₀ out₀ level₀ decay₀ active₀ frequency₀ remainder₀ soak₀ sizes highs lows lasts k₀ i₀ regs keys sums building backup out level decay active frequency remainder soak k i =
     n - i
 
 -- where the loop began: with the numbers of the unit's sets
@@ -55,8 +55,8 @@ abbrev so-far : (c : tie.At-loop Inv-loop μ-loop)
     let a = begun c .args in
     let b = a .m .buckets in
     Going
-    (records (stateOf (a .start) (a .m) (now (a .regs)) (now (a .sums)) (now (a .building)) (now (a .backup))) (eventsOf (a .n) (now (a .part))))
-    (now (a .out)) (4 * l .i) (lying b (l .k) (l .level) (l .decay) (l .active) (l .frequency) (l .remainder) (l .soak) (l .regs) (l .sums) (l .building) (l .backup))
+    (records (stateOf (a .start) (a .m) (now (a .regs)) (now (a .windows)) (now (a .sums)) (now (a .building)) (now (a .backup))) (eventsOf (a .n) (now (a .part))))
+    (now (a .out)) (4 * l .i) (lying b (now (a .windows)) (l .k) (l .level) (l .decay) (l .active) (l .frequency) (l .remainder) (l .soak) (l .regs) (l .sums) (l .building) (l .backup))
     (eventsOf (a .n - l .i) (drop (8 * l .i) (now (a .part)))) (l .out)
 so-far c = c .loop .inv .2 (begun c .args .m .buckets) (numbered c .numbers-of .ensures)
 
@@ -76,14 +76,14 @@ loop-holds c =
     let a = start .args in (
       search needs,
       start .pre .2,
-      (λ b lanes. rw (sub-zero (a .n)) (going-start (lying b (a .start) (a .m .level) (a .m .decay) (a .m .active) (a .m .frequency) (a .m .remainder) (a .m .soak) (now (a .regs)) (now (a .sums)) (now (a .building)) (now (a .backup))) (eventsOf (a .n) (now (a .part))) (now (a .out)))),
+      (λ b lanes. rw (sub-zero (a .n)) (going-start (lying b (now (a .windows)) (a .start) (a .m .level) (a .m .decay) (a .m .active) (a .m .frequency) (a .m .remainder) (a .m .soak) (now (a .regs)) (now (a .sums)) (now (a .building)) (now (a .backup))) (eventsOf (a .n) (now (a .part))) (now (a .out)))),
     )
 
 -- within a turn there is room for the event's record
 room : (c : tie.In-loop Inv-loop μ-loop) → (4 * c .before .loop .i + 4 ≤ length (c .before .loop .out)) × (length (c .before .loop .out) < 2 ^ 64)
 room c =
     let same = so-far (c .before) .same in
-    (omega (arith, same, c .loop-test .taken, begun (c .before) .pre .1), omega (arith, same, begun (c .before) .good .1 .1 .1 .1 .1 .1 .1 .1 .1 .0))
+    (omega (arith, same, c .loop-test .taken, begun (c .before) .pre .1), omega (arith, same, begun (c .before) .good .1 .1 .1 .1 .1 .1 .1 .1 .1 .1 .0))
 
 same-length : tie.Need-same-length Inv-loop μ-loop
 same-length c = so-far (c .before .before .before .before .before) .same
@@ -137,7 +137,7 @@ loop-again c =
       after .1 (l .inv .1),
       (λ b lanes. going-put _ _ (4 * i) (4 * (i + 1)) _ _ _ _ _ _ _ (omega arith) (omega (arith, in-loop .loop-test .taken, begun at-loop .pre .1))
           (events-more _ _ _ (in-loop .loop-test .taken) _ (reads-at read _ (ap decodedOf (told .e .given .1)))) (after .0 b lanes (l .inv .1) .rules)
-          (put .put-record .ensures (rows b) _ _ _ _ (first .places .ensures) (second .places2 .ensures)) (l .inv .2 b lanes)),
+          (put .put-record .ensures (rows b) _ _ _ _ _ (first .places .ensures) (second .places2 .ensures)) (l .inv .2 b lanes)),
     )
 
 returns-2 : tie.Need-returns-2 Inv-loop μ-loop

@@ -50,17 +50,17 @@ returns c =
 
 -- what the settings' run found and left
 abbrev counted : tie.After-run-settings → tie.After-counts-of
-counted c = c .before .before .before .before .before .before .before .before .before .before .before .before .before .before .before .before .before .before .before .before
+counted c = c .before .before .before .before .before .before .before .before .before .before .before .before .before .before .before .before .before .before .before .before .before
 
 sub-run-settings : tie.Need-sub-run-settings
-sub-run-settings c = omega (arith, sizes (c .before .before .before .before .before .before .before .before .before .before) .whole)
+sub-run-settings c = omega (arith, sizes (c .before .before .before .before .before .before .before .before .before .before .before) .whole)
 
 part-run-settings-start : tie.Need-part-run-settings-start
-part-run-settings-start c = omega (arith, sizes (c .before .before .before .before .before .before .before .before .before .before) .whole)
+part-run-settings-start c = omega (arith, sizes (c .before .before .before .before .before .before .before .before .before .before .before) .whole)
 
 run-settings-requires : tie.Need-run-settings-requires
 run-settings-requires c κs =
-    let keyed = c .before .before .before .before .before .before .before .before .before in
+    let keyed = c .before .before .before .before .before .before .before .before .before .before in
     let begun = keyed .before .before .before .before .before .before .before .before .before .before in
     let z = sizes begun in (
       rw part-all (omega (arith, z .whole, length-drop 2 (now (begun .before .before .before .before .before .args .sheet)))),
@@ -75,14 +75,14 @@ part-run-events-start : tie.Need-part-run-events-start
 part-run-events-start c = omega (arith, sizes (counted (c .before .before)) .whole)
 
 sub-run-events-2 : tie.Need-sub-run-events-2
-sub-run-events-2 c = let s = c .before .before .before .before .before .before .before .before in omega (arith, sizes (counted s) .room-for, s .run-settings .kept .1 .1 .1 .1 .1 .1 .1 .1 .1 .0)
+sub-run-events-2 c = let s = c .before .before .before .before .before .before .before .before .before in omega (arith, sizes (counted s) .room-for, s .run-settings .kept .1 .1 .1 .1 .1 .1 .1 .1 .1 .0)
 
 part-run-events-start-2 : tie.Need-part-run-events-start-2
-part-run-events-start-2 c = let s = c .before .before .before .before .before .before .before .before in omega (arith, sizes (counted s) .room-for, s .run-settings .kept .1 .1 .1 .1 .1 .1 .1 .1 .1 .0)
+part-run-events-start-2 c = let s = c .before .before .before .before .before .before .before .before .before in omega (arith, sizes (counted s) .room-for, s .run-settings .kept .1 .1 .1 .1 .1 .1 .1 .1 .1 .0)
 
 run-events-requires : tie.Need-run-events-requires
 run-events-requires c κs =
-    let s = c .before .before .before .before .before .before .before .before .before in
+    let s = c .before .before .before .before .before .before .before .before .before .before in
     let settled = s .run-settings in
     let begun = counted s in
     let n = begun .counts-of .result .settings in
@@ -93,27 +93,27 @@ run-events-requires c κs =
     )
 
 add-result : tie.Need-add-result
-add-result c = let n = counted (c .before .before .before .before .before .before .before .before .before .before .before .before) .counts-of .ensures .1 in omega (arith, n .0, n .1)
+add-result c = let n = counted (c .before .before .before .before .before .before .before .before .before .before .before .before .before) .counts-of .ensures .1 in omega (arith, n .0, n .1)
 
 mul-result : tie.Need-mul-result
-mul-result c = let n = counted (c .before .before .before .before .before .before .before .before .before .before .before .before) .counts-of .ensures .1 in omega (arith, n .0, n .1)
+mul-result c = let n = counted (c .before .before .before .before .before .before .before .before .before .before .before .before .before) .counts-of .ensures .1 in omega (arith, n .0, n .1)
 
 returns-2 : tie.Need-returns-2
 unfolding recordCount
 returns-2 c =
     let ran = c .before .before .run-events in
-    let s = c .before .before .before .before .before .before .before .before .before .before .before .before in
+    let s = c .before .before .before .before .before .before .before .before .before .before .before .before .before in
     let settled = s .run-settings in
     let begun = counted s in
-    let u = s .before .before .before .before .before .before .before .before .before .before .before .before .before .before .before .before .before .before .before .fresh in
+    let u = s .before .before .before .before .before .before .before .before .before .before .before .before .before .before .before .before .before .before .before .before .fresh in
     let made = u .result in
     let n = counts begun in
     let a = begun .before .before .before .before .before .args in
     let z = zero (begun .before) in
-    let fresh = ap (λ (k : Core). stateOf k (made .monitors) (made .regs) (made .history .sums) (made .history .building) (made .history .backup)) (s .before .before .before .before .before .before .before .before .core-of .ensures) ∙ u .ensures in (
+    let fresh = ap (λ (k : Core). stateOf k (made .monitors) (made .regs) (made .week .windows) (made .history .sums) (made .history .building) (made .history .backup)) (s .before .before .before .before .before .before .before .before .core-of .ensures) ∙ u .ensures in (
       omega (arith, outputs (now (a .sheet)) (now (a .out)) z .written, n .0, n .1),
-      all-written (now (a .sheet)) (now (a .out)) (settled .last .1 .1 .1 .1 .1 .1 .1 .1 .1 .0) (ran .last .1 .1 .1 .1 .1 .1 .1 .1 .1 .0) _ _ _ _ z (n .0) (n .1)
-          fresh (settled .ensures .0 (made .monitors)) (settled .ensures .1 .0 (made .monitors)) (ran .ensures),
+      all-written (now (a .sheet)) (now (a .out)) (settled .last .1 .1 .1 .1 .1 .1 .1 .1 .1 .0) (ran .last .1 .1 .1 .1 .1 .1 .1 .1 .1 .1 .0) _ _ _ _ z (n .0) (n .1)
+          fresh (settled .ensures .0 (made .monitors) (made .week .windows)) (settled .ensures .1 .0 (made .monitors) (made .week .windows)) (ran .ensures),
     )
 
 pub run-into-spec : {M : Type 1} → statement M

@@ -1,5 +1,6 @@
 -- After i settings their records are written, and the rest, run from the state so far, gives the rest of them and the same state. The keys follow the registers.
 use Prim.Native.Nat.{ℕ, _≤_, _-_, _*_, _+_}
+use mathlib.Core.List.{List}
 use mathlib.Core.Path.{_≡_, refl, sym, ap, _∙_}
 use native.Mathlib.Nat.{sub-zero}
 use native.Mathlib.Omega.{arith}
@@ -24,8 +25,8 @@ Inv-loop part n soak regs₀ keys₀ sums₀ building₀ backup₀ out₀ k₀ i
     (i ≤ n)
     × (length out ≡ length out₀)
     × (keys ≡ keysFrom (settingsFrom regs))
-    × ((m : Monitors) → Going (records (stateOf k₀ (withSoak m soak) regs₀ sums₀ building₀ backup₀) (settingsOf n part)) out₀ (4 * i) (stateOf k (withSoak m soak) regs sums building backup) (settingsOf (n - i) (drop (2 * i) part)) out)
-    × ((m : Monitors) → run (stateOf k (withSoak m soak) regs sums building backup) (settingsOf (n - i) (drop (2 * i) part)) ≡ run (stateOf k₀ (withSoak m soak) regs₀ sums₀ building₀ backup₀) (settingsOf n part))
+    × ((m : Monitors) (windows : List ℕ) → Going (records (stateOf k₀ (withSoak m soak) regs₀ windows sums₀ building₀ backup₀) (settingsOf n part)) out₀ (4 * i) (stateOf k (withSoak m soak) regs windows sums building backup) (settingsOf (n - i) (drop (2 * i) part)) out)
+    × ((m : Monitors) (windows : List ℕ) → run (stateOf k (withSoak m soak) regs windows sums building backup) (settingsOf (n - i) (drop (2 * i) part)) ≡ run (stateOf k₀ (withSoak m soak) regs₀ windows sums₀ building₀ backup₀) (settingsOf n part))
 
 abbrev μ-loop : tie.MeasureT-loop
 μ-loop part n soak regs₀ keys₀ sums₀ building₀ backup₀ out₀ k₀ i₀ regs keys sums building backup out k i = n - i
@@ -37,8 +38,8 @@ loop-holds c =
       search needs,
       refl,
       start .pre .2,
-      (λ m. rw (sub-zero (a .n)) (going-start (stateOf (a .start) (withSoak m (now (a .soak))) (now (a .regs)) (now (a .sums)) (now (a .building)) (now (a .backup))) (settingsOf (a .n) (now (a .part))) (now (a .out)))),
-      (λ m. ap (λ (k : ℕ). run (stateOf (a .start) (withSoak m (now (a .soak))) (now (a .regs)) (now (a .sums)) (now (a .building)) (now (a .backup))) (settingsOf k (now (a .part)))) (sub-zero (a .n))),
+      (λ m windows. rw (sub-zero (a .n)) (going-start (stateOf (a .start) (withSoak m (now (a .soak))) (now (a .regs)) windows (now (a .sums)) (now (a .building)) (now (a .backup))) (settingsOf (a .n) (now (a .part))) (now (a .out)))),
+      (λ m windows. ap (λ (k : ℕ). run (stateOf (a .start) (withSoak m (now (a .soak))) (now (a .regs)) windows (now (a .sums)) (now (a .building)) (now (a .backup))) (settingsOf k (now (a .part)))) (sub-zero (a .n))),
     )
 
 put-record-requires : tie.Need-put-record-requires Inv-loop μ-loop
@@ -81,18 +82,18 @@ loop-again c =
       soak = row;
       buckets = record { sets = row; assigned = row };
     } in
-    let going : (m : Monitors) → _ = λ m.
+    let going : (m : Monitors) (windows : List ℕ) → _ = λ m windows.
     let rows = withSoak m (now (a .soak)) in
-    going-put _ _ (4 * i) (4 * (i + 1)) _ _ _ _ _ _ _ (omega arith) (omega (arith, l .inv .1)) more (told .0 rows .rules)
-    (put .put-record .ensures rows _ _ _ _ (first .places .ensures) (second .places2 .ensures)) (l .inv .3 m) in (
+    going-put _ _ (4 * i) (4 * (i + 1)) _ _ _ _ _ _ _ (omega arith) (omega (arith, l .inv .1)) more (told .0 rows windows .rules)
+    (put .put-record .ensures rows _ _ _ _ _ (first .places .ensures) (second .places2 .ensures)) (l .inv .3 m windows) in (
       search needs,
-      going some .same,
+      going some row .same,
       told .1 (l .inv .2),
       going,
-      (λ m.
+      (λ m windows.
           let rows = withSoak m (now (a .soak)) in
-          ap (λ (o : rules.Outcome). run (o .state) rest) (told .0 rows .rules)
-          ∙ sym (ap (run (stateOf (l .k) rows (l .regs) (l .sums) (l .building) (l .backup))) more) ∙ l .inv .4 m),
+          ap (λ (o : rules.Outcome). run (o .state) rest) (told .0 rows windows .rules)
+          ∙ sym (ap (run (stateOf (l .k) rows (l .regs) windows (l .sums) (l .building) (l .backup))) more) ∙ l .inv .4 m windows),
     )
 
 returns : tie.Need-returns Inv-loop μ-loop
@@ -104,8 +105,8 @@ returns c =
     let i = l .i in
     let e : a .n - i ≡ 0 = omega arith in
     let left = ap (λ (k : ℕ). settingsOf k (drop (2 * i) (now (a .part)))) e in (
-      (λ m. sym (ap (run (stateOf (l .k) (withSoak m (now (a .soak))) (l .regs) (l .sums) (l .building) (l .backup))) left) ∙ l .inv .4 m),
-      ((λ m. going-done _ _ (4 * i) _ _ _ (omega (arith, l .inv .1)) left (l .inv .3 m)), l .inv .2),
+      (λ m windows. sym (ap (run (stateOf (l .k) (withSoak m (now (a .soak))) (l .regs) windows (l .sums) (l .building) (l .backup))) left) ∙ l .inv .4 m windows),
+      ((λ m windows. going-done _ _ (4 * i) _ _ _ (omega (arith, l .inv .1)) left (l .inv .3 m windows)), l .inv .2),
     )
 
 pub run-settings-spec : {M : Type 1} → statement M
