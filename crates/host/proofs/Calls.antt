@@ -16,6 +16,7 @@ unitOf s =
       history = record { tally = s .core .tally; sums = s .sums; building = s .building; backup = s .backup };
       choice = s .core .choice;
       holding = s .core .holding;
+      week = record { place = s .core .place; windows = s .windows };
       pll = s .core .pll;
       regs = s .regs;
     }

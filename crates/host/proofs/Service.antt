@@ -1,4 +1,4 @@
--- Demands 2 and 3, and requests #102, #104, #105 and #106, of the unit itself, proved: what the host holds is the rules' run.
+-- Demands 2 and 3, and requests #102 and #104 to #107, of the unit itself, proved: what the host holds is the rules' run.
 use Prim.Native.Nat.{ℕ}
 use mathlib.Core.Path.{_≡_, refl, ap, sym, _∙_}
 use mathlib.Core.Logic.{inl, inr}
@@ -14,7 +14,7 @@ use Rattle.rules.specs.FinerReadings.{finer}
 use Rattle.rules.specs.Service.{Served}
 use Rattle.rules.specs.Sheet.{Decoded, event, bad}
 use Rattle.rules.proofs.Loading.{standard}
-use Rattle.rules.proofs.Promise.{promise, promise-in-figures, promise-at-start}
+use Rattle.rules.proofs.Promise.{promise, promise-in-figures, promise-without-windows, promise-at-start}
 use Rattle.rules.proofs.Comparison.{never-less-ready}
 use Rattle.rules.proofs.FinerReadings.{finer-readings}
 use Rattle.rules.proofs.Standing.{ends-by-command-3}
@@ -23,7 +23,7 @@ use Rattle.unit.specs.Bridge.{modelOf}
 use Rattle.unit.specs.declared.Unit.{Unit as Stored}
 use Rattle.loading.proofs.Checks.{loaded}
 use Rattle.host.specs.Lent.{Places, given, Leads, wordOf}
-use Rattle.host.specs.Service.{Call, ofEvent, ofSet, ofAssign, ofLoad, decoded, with, eventsOf, Answers, Lent, Begins, Holds, ownReady, Agreement, UnitServed, UnitPromise, UnitPromiseInFigures, UnitPromiseAtStart, UnitNeverLessReady, UnitEndsByCommand3, UnitAsBefore}
+use Rattle.host.specs.Service.{Call, ofEvent, ofSet, ofAssign, ofWeek, ofWindows, ofLoad, decoded, with, eventsOf, Answers, Lent, Begins, Holds, ownReady, Agreement, UnitServed, UnitPromise, UnitPromiseInFigures, UnitPromiseWithoutWindows, UnitPromiseAtStart, UnitNeverLessReady, UnitEndsByCommand3, UnitAsBefore}
 
 -- one call: the rules go on from the state that it left
 led-on : (u w : Stored) (d : Decoded) (n : ℕ) (es : List Event) → Leads u (given d) n w → run (modelOf u) (with d es) ≡ run (modelOf w) es
@@ -36,6 +36,8 @@ unfolding with
 goes-on u w (ofEvent kind a b word) n es l = led-on u w (decoded (ofEvent kind a b word)) n es l
 goes-on u w (ofSet set size setLevel clearLevel d) n es l = led-on u w (decoded (ofSet set size setLevel clearLevel d)) n es l
 goes-on u w (ofAssign input set) n es l = led-on u w (decoded (ofAssign input set)) n es l
+goes-on u w (ofWeek place) n es l = led-on u w (decoded (ofWeek place)) n es l
+goes-on u w (ofWindows count numbers) n es l = led-on u w (decoded (ofWindows count numbers)) n es l
 goes-on u w (ofLoad table) n es (some, l) = ap (λ (x : Stored). run (modelOf x) es) (sym (l .left some))
 
 -- and the sums have their places
@@ -43,6 +45,8 @@ places-on : (u w : Stored) (c : Call) (n : ℕ) → Answers u c n w → Places w
 places-on u w (ofEvent kind a b word) n l = l .places
 places-on u w (ofSet set size setLevel clearLevel d) n l = l .places
 places-on u w (ofAssign input set) n l = l .places
+places-on u w (ofWeek place) n l = l .places
+places-on u w (ofWindows count numbers) n l = l .places
 places-on u w (ofLoad table) n (some, l) = l .places
 
 -- a list of calls
@@ -118,9 +122,13 @@ pub unit-promise-in-figures : UnitPromiseInFigures
 unit-promise-in-figures start before after later r n size setLevel clearLevel d u h is delayed p =
     unit-served start before after later _ _ r u h (λ f. promise-in-figures start f before after later r n size setLevel clearLevel d is delayed p)
 
+pub unit-promise-without-windows : UnitPromiseWithoutWindows
+unit-promise-without-windows start before after later r n size setLevel clearLevel d u h none is delayed p =
+    unit-served start before after later _ _ r u h (λ f. promise-without-windows start f before after later r n size setLevel clearLevel d none is delayed p)
+
 pub unit-promise-at-start : UnitPromiseAtStart
-unit-promise-at-start start before after later r n u h is delayed p =
-    unit-served start before after later _ _ r u h (λ f. promise-at-start start f before after later r n is delayed p)
+unit-promise-at-start start before after later r n u h none is delayed p =
+    unit-served start before after later _ _ r u h (λ f. promise-at-start start f before after later r n none is delayed p)
 
 -- REQUEST #102 OF THE UNIT
 pub unit-never-less-ready : UnitNeverLessReady

@@ -24,9 +24,9 @@ abbrev pub given : Decoded → State → Outcome
 given (event e) s = outcome s e
 given bad s = record { refusal = decodedNumber bad; state = s }
 
--- What `unit_event`, `unit_set_bucket`, `unit_assign_bucket` and `unit_load` say of a call that finds unit u, returns n and leaves unit v, where `gives` is
--- what the rules give of the event, the call or the table that was passed: number and state are the rules', and a call that is turned down leaves the stored
--- unit itself as it was.
+-- What `unit_event`, `unit_set_bucket`, `unit_assign_bucket`, `unit_set_week`, `unit_set_windows` and `unit_load` say of a call that finds unit u, returns n
+-- and leaves unit v, where `gives` is what the rules give of the event, the call or the table that was passed: number and state are the rules', and a call
+-- that is turned down leaves the stored unit itself as it was.
 pub record Leads (u : code.Unit) (gives : State → Outcome) (n : ℕ) (v : code.Unit) : Type 0 where
   pub rules : record { refusal = n; state = modelOf v } ≡ gives (modelOf u)
   pub left : (n ≡ 0 → ⊥) → v ≡ u

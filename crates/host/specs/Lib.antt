@@ -1,3 +1,3 @@
--- What the exported functions' contracts say, and demands 2 and 3, #102, #104, #105 and #106 of the unit itself.
+-- What the exported functions' contracts say, and demands 2 and 3, #102 and #104 to #107 of the unit itself.
 pub mod Lent
 pub mod Service

@@ -1,4 +1,4 @@
--- Document 01, demands 2 and 3, and requests #102, #104, #105 and #106, of the unit itself: what a host holds that makes a unit and lends it for each event and call.
+-- Document 01, demands 2 and 3, and requests #102 and #104 to #107, of the unit itself: what a host holds that makes a unit and lends it for each event and call.
 use Prim.Native.Nat.{ℕ, _+_, _-_, _*_, _^_, _≤_, max}
 use mathlib.Core.Path.{_≡_}
 use mathlib.Core.Logic.{_⊎_}
@@ -6,8 +6,9 @@ use mathlib.Core.Bool.{Bool, true, false}
 use mathlib.Core.List.{List, [], _∷_, _++_, map}
 use lib.Dec.{leb}
 use lib.IntN.{ℤ}
-use Rattle.rules.specs.Events.{Event, write, setBucket, assignBucket}
+use Rattle.rules.specs.Events.{Event, write, setBucket, assignBucket, setWeek, setWindows}
 use Rattle.rules.specs.Settings.{delay}
+use Rattle.rules.specs.Week.{longest, firstWindows}
 use Rattle.rules.specs.Buckets.{bucketFrom, startBucket, bucketOf}
 use Rattle.rules.specs.State.{State, selected, Ready}
 use Rattle.rules.specs.History.{readyBlocks}
@@ -36,6 +37,10 @@ pub data Call : Type 0 where
   ofSet : ℕ → ℕ → ℕ → ℕ → ℕ → Call
   -- `unit_assign_bucket`: the input, and the set
   ofAssign : ℕ → ℕ → Call
+  -- `unit_set_week`: the place
+  ofWeek : ℕ → Call
+  -- `unit_set_windows`: the count, and the numbers
+  ofWindows : ℕ → List ℕ → Call
   -- `unit_load`, turned down: the table
   ofLoad : List ℕ → Call
 
@@ -44,6 +49,8 @@ abbrev pub decoded : Call → Decoded
 decoded (ofEvent kind a b word) = fields kind a b word
 decoded (ofSet set size setLevel clearLevel d) = event (setBucket set size setLevel clearLevel d)
 decoded (ofAssign input set) = event (assignBucket input set)
+decoded (ofWeek place) = event (setWeek place)
+decoded (ofWindows count numbers) = event (setWindows (firstWindows count numbers))
 decoded (ofLoad table) = bad
 
 -- the events of a list of calls: a call that is no event is not one of them
@@ -61,6 +68,8 @@ abbrev pub Answers : Stored → Call → ℕ → Stored → Type 0
 Answers u (ofEvent kind a b word) n w = Leads u (given (fields kind a b word)) n w
 Answers u (ofSet set size setLevel clearLevel d) n w = Leads u (given (event (setBucket set size setLevel clearLevel d))) n w
 Answers u (ofAssign input set) n w = Leads u (given (event (assignBucket input set))) n w
+Answers u (ofWeek place) n w = Leads u (given (event (setWeek place))) n w
+Answers u (ofWindows count numbers) n w = Leads u (given (event (setWindows (firstWindows count numbers)))) n w
 Answers u (ofLoad table) n w = (n ≡ 0 → ⊥) × Leads u (loading table) n w
 
 -- "each event gets the state that the one before it left, and nobody else writes that state in between": from unit u, call by call, to unit v
@@ -125,7 +134,7 @@ UnitPromise =
     → UnitServed (selectedTicks r (run start before)) (readyTicks r (run start before)) r (run start before) after u
 
 -- The same in figures: "n is the least whole number with 4n at least 1,875 times the reversion delay in minutes." #104: r's set at the moment
--- is S, U, L, d, and "78 + the larger of 782 and (S − L) times 2^d" stands "for its 860, with 5,519 more to Ready".
+-- is S, U, L, d, and "78 + the larger of 782 and (S − L) times 2^d" stands "for its 860, with 5,519 more to Ready". #107: and the longest window.
 abbrev pub UnitPromiseInFigures : Type 0
 UnitPromiseInFigures =
     (start : State) (before after later : List Event) (r n size setLevel clearLevel d : ℕ) (u : Stored)
@@ -133,14 +142,27 @@ UnitPromiseInFigures =
     → bucketOf (run start before .buckets) r ≡ bucketFrom size setLevel clearLevel d
     → LeastDelay (delay (run start before .settings)) n
     → Provisos r (run start before) (after ++ later)
+    → let toSelected = 78 + max 782 ((size - clearLevel) * 2 ^ d) + n + longest (run start before .week .windows) in
+    UnitServed toSelected (toSelected + 5_519) r (run start before) after u
+
+-- In a unit without windows at the moment this is what it was before #107.
+abbrev pub UnitPromiseWithoutWindows : Type 0
+UnitPromiseWithoutWindows =
+    (start : State) (before after later : List Event) (r n size setLevel clearLevel d : ℕ) (u : Stored)
+    → Holds start (before ++ (after ++ later)) u
+    → run start before .week .windows ≡ []
+    → bucketOf (run start before .buckets) r ≡ bucketFrom size setLevel clearLevel d
+    → LeastDelay (delay (run start before .settings)) n
+    → Provisos r (run start before) (after ++ later)
     → let toSelected = 78 + max 782 ((size - clearLevel) * 2 ^ d) + n in
     UnitServed toSelected (toSelected + 5_519) r (run start before) after u
 
--- With r's set as the sets start this is document 01's: 860 + n, and 6,379 + n.
+-- And with r's set as the sets start this is document 01's: 860 + n, and 6,379 + n.
 abbrev pub UnitPromiseAtStart : Type 0
 UnitPromiseAtStart =
     (start : State) (before after later : List Event) (r n : ℕ) (u : Stored)
     → Holds start (before ++ (after ++ later)) u
+    → run start before .week .windows ≡ []
     → bucketOf (run start before .buckets) r ≡ startBucket
     → LeastDelay (delay (run start before .settings)) n
     → Provisos r (run start before) (after ++ later)

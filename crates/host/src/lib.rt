@@ -1,8 +1,9 @@
 // The unit's state lent by the host (document 01: "The host owns the unit's state and lends it for each event; the event updates it and touches nothing
-// else"). Six functions are exported to C and Rust; each is thin over a function by value. What stores through the reference that it is lent does so only
+// else"). Eight functions are exported to C and Rust; each is thin over a function by value. What stores through the reference that it is lent does so only
 // if the event, the call or the table is accepted.
 ghost use mathlib.Core.Path.{_≡_};
-ghost use Rattle.rules.specs.Events.{setBucket, assignBucket};
+ghost use Rattle.rules.specs.Events.{setBucket, assignBucket, setWeek, setWindows};
+ghost use Rattle.rules.specs.Week.{firstWindows};
 ghost use Rattle.rules.specs.Loading.{loading};
 ghost use Rattle.rules.specs.Sheet as sheet;
 ghost use Rattle.rules.specs.Sheet.{fields};
@@ -39,6 +40,20 @@ pub fn assign_bucket(u: Unit, input: u8, set: u8) -> Outcome
     ensures { λ r. ⌜ Leads u (given (sheet.event (assignBucket input set))) (r .refusal) (r .unit) ⌝ }
 {
     calls::assign_bucket(u, input, set)
+}
+
+// The place in the week is set (document 02, #107).
+pub fn set_week(u: Unit, place: u32) -> Outcome
+    ensures { λ r. ⌜ Leads u (given (sheet.event (setWeek place))) (r .refusal) (r .unit) ⌝ }
+{
+    calls::set_week(u, place)
+}
+
+// The windows of the busy hours are set: start and end of each of the first `count`.
+pub fn set_windows(u: Unit, count: u8, windows: &[u32; 16]) -> Outcome
+    ensures { λ r. ⌜ Leads u (given (sheet.event (setWindows (firstWindows count (now (windows .entry)))))) (r .refusal) (r .unit) ⌝ }
+{
+    calls::set_windows(u, count, windows)
 }
 
 // The unit made anew of a table of bytes (document 02, #105).
@@ -114,6 +129,30 @@ pub extern "C" fn unit_assign_bucket(u: &mut Unit, input: u8, set: u8) -> u8
         *u = given.unit;
     }
     given.refusal
+}
+
+// The place in the week of a lent unit is set: 16 or 0. A refusal stores nothing.
+#[no_mangle]
+pub extern "C" fn unit_set_week(u: &mut Unit, place: u32) -> u8
+    ensures { λ r. ⌜ Leads (now (u .entry)) (given (sheet.event (setWeek place))) r (now (u .exit)) ⌝ }
+{
+    let placed = set_week(*u, place);
+    if placed.refusal == 0 {
+        *u = placed.unit;
+    }
+    placed.refusal
+}
+
+// The windows of a lent unit are set: 16 or 0. A refusal stores nothing.
+#[no_mangle]
+pub extern "C" fn unit_set_windows(u: &mut Unit, count: u8, windows: &[u32; 16]) -> u8
+    ensures { λ r. ⌜ Leads (now (u .entry)) (given (sheet.event (setWindows (firstWindows count (now (windows .entry)))))) r (now (u .exit)) ⌝ }
+{
+    let busy = set_windows(*u, count, windows);
+    if busy.refusal == 0 {
+        *u = busy.unit;
+    }
+    busy.refusal
 }
 
 // A lent unit is made anew of a table of bytes, of any length: 15 or 0. A refusal stores nothing.
