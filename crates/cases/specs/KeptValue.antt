@@ -30,6 +30,7 @@ nearlyReady =
       choice = settled 1;
       history = withLast 1 (refilled (replicate 42 (pos 896)) false [] (pos 889) 127 freshHistory);
       holding = 0;
+      week = fresh .week;
     }
 
 -- that sample
