@@ -17,7 +17,7 @@ use Rattle.rules.specs.Registers.{fresh}
 use Rattle.rules.proofs.Loading.{standard}
 use Rattle.rules.proofs.Promise.{promise}
 use Rattle.rules.proofs.Computing.{computing}
-use Rattle.bounds.specs.Promise.{settings, alarmed, refilled, moment, oneTick, ticks, AlarmSet, BucketFull, AtStart, AtLargest}
+use Rattle.bounds.specs.Promise.{settings, alarmed, refilled, windowed, moment, oneTick, ticks, AlarmSet, BucketFull, WindowSet, AtStart, AtLargest, AtWindow}
 
 -- ---- the settings at the moment
 
@@ -71,6 +71,10 @@ pub bucketFull : BucketFull
 unfolding computing settings refilled
 bucketFull = refl
 
+pub windowSet : WindowSet
+unfolding computing settings alarmed windowed
+windowSet = refl
+
 met-alarmed : (k : ℕ) → Provisos 1 (moment alarmed) (ticks k)
 unfolding computing settings alarmed
 met-alarmed k = record { low = omega arith; high = omega arith; automatic = refl; clear = refl; preferred = preferred; fair = fair k (moment alarmed) }
@@ -78,6 +82,10 @@ met-alarmed k = record { low = omega arith; high = omega arith; automatic = refl
 met-refilled : (k : ℕ) → Provisos 1 (moment refilled) (ticks k)
 unfolding computing settings refilled
 met-refilled k = record { low = omega arith; high = omega arith; automatic = refl; clear = refl; preferred = preferred; fair = fair k (moment refilled) }
+
+met-windowed : (k : ℕ) → Provisos 1 (moment windowed) (ticks k)
+unfolding computing settings alarmed windowed
+met-windowed k = record { low = omega arith; high = omega arith; automatic = refl; clear = refl; preferred = preferred; fair = fair k (moment windowed) }
 
 pub atStart : AtStart
 unfolding computing settings alarmed
@@ -99,6 +107,19 @@ atLargest =
       met = met-refilled;
       counted = λ k. counted k (moment refilled);
       kept = λ k. kept refilled k (met-refilled k);
+      first-number = refl;
+      second-number = refl;
+      notBettered = refl;
+      notReadyBefore = refl;
+    }
+
+pub atWindow : AtWindow
+unfolding computing settings alarmed windowed
+atWindow =
+    record {
+      met = met-windowed;
+      counted = λ k. counted k (moment windowed);
+      kept = λ k. kept windowed k (met-windowed k);
       first-number = refl;
       second-number = refl;
       notBettered = refl;

@@ -1,2 +1,2 @@
--- The promise of service on two histories, as statements.
+-- The promise of service on three histories, as statements.
 pub mod Promise

@@ -1,13 +1,14 @@
--- Document 01, "Demand 3", and request #104 of document 02, on two histories, with r = 1: the promise's provisos can be met, and neither of its numbers can
--- be bettered, with the sets as they start and with one whose (S − L) times 2^d is larger than 782.
+-- Document 01, "Demand 3", and requests #104 and #107 of document 02, on three histories, with r = 1: the promise's provisos can be met, and neither of its
+-- numbers can be bettered, with the sets as they start, with one whose (S − L) times 2^d is larger than 782, and with a window that comes at the worst place.
 use Prim.Native.Nat.{ℕ, _+_, _-_}
 use mathlib.Core.Path.{_≡_}
 use mathlib.Core.Bool.{true, false}
 use mathlib.Core.List.{List, [], _∷_, _++_}
 use lib.IntN.{pos}
 use lib.ListN.{replicate}
-use Rattle.rules.specs.Events.{Event, tick, measurement, write, setBucket, assignBucket}
+use Rattle.rules.specs.Events.{Event, tick, measurement, write, setBucket, assignBucket, setWeek, setWindows}
 use Rattle.rules.specs.Monitors.{alarmTicks}
+use Rattle.rules.specs.Week.{longest}
 use Rattle.rules.specs.Selection.{input}
 use Rattle.rules.specs.State.{State, selected, Ready}
 use Rattle.rules.specs.Registers.{fresh}
@@ -15,7 +16,7 @@ use Rattle.rules.specs.Run.{run}
 use Rattle.rules.specs.Service.{Provisos, selectedTicks, readyTicks, acceptedTicks, Served}
 use Rattle.rules.specs.Table.{_is_, Holds}
 
--- ---- the two histories
+-- ---- the three histories
 
 -- Automatic, a delay of a minute, inputs 1 and 2 unmasked, input 2 revertive and of priority 1, so behind input 1, which has 0; both are measured.
 unfoldable pub settings : List Event
@@ -34,6 +35,11 @@ unfoldable pub refilled : List Event
 unfolding unlocked
 refilled = settings ++ (unlocked 79 ++ (setBucket 1 255 1 0 3 ∷ assignBucket 1 1 ∷ []))
 
+-- As `alarmed`, with a window of 100 ticks that ends with the week, and then the place so that its first tick is number 1,329 from the moment: the one in which
+-- the wait is over.
+unfoldable pub windowed : List Event
+windowed = alarmed ++ (setWindows (record { start = 4_724_900; end = 4_725_000 } ∷ []) ∷ setWeek (4_724_900 - 1_328) ∷ [])
+
 -- the state at the moment; the standard fresh unit is enough, since one history shows that a number cannot be bettered
 abbrev pub moment : List Event → State
 moment lead = run fresh lead
@@ -50,6 +56,10 @@ BucketFull =
     ∷ input (moment refilled .inputs) 1 .activity .alarm is true
     ∷ selected (moment refilled) is 1
     ∷ [])
+
+-- at the moment: 2 is selected, and the longest window has 100 ticks
+abbrev pub WindowSet : Type 0
+WindowSet = Holds (longest (moment windowed .week .windows) is 100 ∷ moment windowed .week .place is 4_723_572 ∷ selected (moment windowed) is 2 ∷ [])
 
 -- from the moment on: k ticks, irregular for no input, that report lock
 abbrev pub oneTick : Event
@@ -79,3 +89,7 @@ AtStart = Exact alarmed 1_329 6_848
 -- 2,118 + n and 5,519 more: (255 − 0) times 2^3 is 2,040
 abbrev pub AtLargest : Type 0
 AtLargest = Exact refilled 2_587 8_106
+
+-- 860 + n + 100 and 5,519 more: 2 is still selected in the window's last tick, and 1 in the first of the new week
+abbrev pub AtWindow : Type 0
+AtWindow = Exact windowed 1_429 6_948
