@@ -101,10 +101,10 @@ fn reverted(windows: &[u32; 16], place: u32, n: u64, b: u8, c: Choice) -> Choice
         return waiting(wait, b, c);
     }
     let blocked = is_busy(windows, place);
-    if blocked {
-        return waiting(wait_after(true, n, b, c), b, c);
+    if !blocked {
+        return settled(b);
     }
-    settled(b)
+    waiting(wait_after(true, n, b, c), b, c)
 }
 
 // ---- the choice

@@ -26,25 +26,25 @@ returns c =
 
 returns-2 : tie.Need-returns-2
 returns-2 c =
+    let found = c .before .before in
+    let tested = found .before .before in
+    let a = tested .before .before .args in
+    let free = sym (not-true _ (c .before .if2 .taken)) ∙ found .is-busy .ensures in
+    c .settled .ensures
+    ∙ sym (switched (a .n) (a .b) (choiceOf (a .c)) (sym (over tested) ∙ not-false _ (found .before .if1 .left)))
+    ∙ ap (λ (t : Bool). reverted t (a .n) (a .b) (choiceOf (a .c))) free
+
+returns-3 : tie.Need-returns-3
+returns-3 c =
     let known = c .before in
     let found = known .before .before in
     let a = found .before .before .before .before .args in
-    let blocked = sym (known .before .if2 .taken) ∙ found .is-busy .ensures in
+    let blocked = sym (not-false _ (known .before .if2 .left)) ∙ found .is-busy .ensures in
     c .waiting2 .ensures
     ∙ (λ i. record { selected = a .c .selected; wait = known .wait-after2 .ensures i; waitFor = a .b })
     ∙ sym (kept (a .n) (a .b) (choiceOf (a .c)))
     ∙ ap (λ (t : Bool). reverted t (a .n) (a .b) (choiceOf (a .c))) blocked
 
-returns-3 : tie.Need-returns-3
-returns-3 c =
-    let found = c .before .before in
-    let tested = found .before .before in
-    let a = tested .before .before .args in
-    let free = sym (c .before .if2 .left) ∙ found .is-busy .ensures in
-    c .settled .ensures
-    ∙ sym (switched (a .n) (a .b) (choiceOf (a .c)) (sym (over tested) ∙ not-false _ (found .before .if1 .left)))
-    ∙ ap (λ (t : Bool). reverted t (a .n) (a .b) (choiceOf (a .c))) free
-
 pub reverted-spec : {M : Type 1} → statement M
 reverted-spec =
-    tie.close (tie.spec (λ c κs. tt) (λ c κs. tt) (λ c κs. tt) returns (λ c κs. tt) (λ c κs. tt) (λ c κs. tt) returns-2 (λ c κs. tt) returns-3)
+    tie.close (tie.spec (λ c κs. tt) (λ c κs. tt) (λ c κs. tt) returns (λ c κs. tt) (λ c κs. tt) returns-2 (λ c κs. tt) (λ c κs. tt) returns-3)
