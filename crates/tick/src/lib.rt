@@ -97,8 +97,9 @@ pub fn tick(
     // step 3
     let driven = looped(lock, k.choice.selected, k.pll);
     alarmed(k.choice.selected, driven, remainder, soak);
-    // step 4, on a copy of the soaks: of a row that lies at hand eight are compared side by side
+    // step 4, at the place that stands, and the place after it; on a copy of the soaks: of a row that lies at hand eight are compared side by side
     let soaks = *soak;
+    let place = week::advanced(k.place);
     let choice = selection::chosen(&soaks, regs, keys, windows, k.place, k.choice);
     let steered = pll::steered(
         registers::is_automatic(regs),
@@ -109,7 +110,6 @@ pub fn tick(
         driven,
     );
     let holding = pll::holding_after(k.pll.mode, steered.mode, k.holding);
-    let place = week::advanced(k.place);
     // step 5
     let tally = history::recorded(
         registers::setting(regs, 0x25),

@@ -42,14 +42,14 @@ returns : tie.Need-returns
 unfolding watchedAfter inputsAfter loopAfter weekAfter steps1to4 step5 ticked
 returns c buckets backup lanes h e =
     let kept = c .before .before .before in
-    let placed = kept .before .before in
-    let held = placed .before in
+    let held = kept .before .before in
     let turned = held .before in
     let ready = turned .before in
     let op = ready .before in
     let auto = op .before in
     let choosing = auto .before in
-    let alarms = choosing .before .before .before in
+    let placed = choosing .before .before in
+    let alarms = placed .before .before in
     let driven = alarms .before .before .before in
     let watching = driven .before in
     let start = watching .before .before .before .before .before .before in
