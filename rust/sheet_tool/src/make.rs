@@ -1,6 +1,7 @@
 //! From the text to what is run, and to the sheet: `make`.
 
 mod assembly;
+mod call;
 mod fault;
 mod field;
 mod statement;

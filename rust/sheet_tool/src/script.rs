@@ -28,7 +28,7 @@ pub struct Host {
 impl Host {
     /// The unit as it is made, and then after each step.
     pub fn moments(&self) -> Vec<Moment> {
-        stepped(fresh(self.table.as_deref()), self.steps.iter().copied())
+        stepped(fresh(self.table.as_deref()), self.steps.iter().cloned())
     }
 }
 

@@ -5,14 +5,14 @@ use crate::event::Event;
 use controller::{Unit, TICK};
 use std::fmt;
 
-#[derive(Clone, Copy, Debug, PartialEq, Eq)]
+#[derive(Clone, Debug, PartialEq, Eq)]
 pub enum Step {
     Event(Event),
     Call(Call),
 }
 
 /// A call of the host, with document 02's arguments: those of #104.
-#[derive(Clone, Copy, Debug, PartialEq, Eq)]
+#[derive(Clone, Debug, PartialEq, Eq)]
 pub enum Call {
     /// The numbers are size, set level, clear level and decay.
     SetBucket {
@@ -27,20 +27,20 @@ pub enum Call {
 
 impl Step {
     /// Gives it to a unit: the refusal's number, 0 if accepted.
-    pub fn give(self, unit: &mut Unit) -> u8 {
-        match self {
+    pub fn give(&self, unit: &mut Unit) -> u8 {
+        match *self {
             Step::Event(Event { kind, a, b, word }) => unit.event(kind, a, b, word),
-            Step::Call(call) => call.give(unit),
+            Step::Call(ref call) => call.give(unit),
         }
     }
 
     /// How many ticks it takes: 1 for an accepted tick, else 0.
-    pub fn ticks(self, refusal: u8) -> u64 {
+    pub fn ticks(&self, refusal: u8) -> u64 {
         let tick = matches!(self, Step::Event(Event { kind: TICK, .. }));
         u64::from(tick && refusal == 0)
     }
 
-    pub fn call(self) -> Option<Call> {
+    pub fn call(&self) -> Option<&Call> {
         match self {
             Step::Event(_) => None,
             Step::Call(call) => Some(call),
@@ -52,8 +52,8 @@ impl Call {
     /// The words of their statements.
     pub const WORDS: [&'static str; 2] = ["bucket", "assign"];
 
-    fn give(self, unit: &mut Unit) -> u8 {
-        match self {
+    fn give(&self, unit: &mut Unit) -> u8 {
+        match *self {
             Call::SetBucket { set, numbers } => {
                 let [size, set_level, clear_level, decay] = numbers;
                 unit.set_bucket(set, size, set_level, clear_level, decay)
@@ -63,7 +63,7 @@ impl Call {
     }
 
     /// The word of its statement.
-    pub fn word(self) -> &'static str {
+    pub fn word(&self) -> &'static str {
         match self {
             Call::SetBucket { .. } => Call::WORDS[0],
             Call::AssignBucket { .. } => Call::WORDS[1],

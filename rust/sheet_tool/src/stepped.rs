@@ -7,7 +7,7 @@ use crate::step::{Call, Step};
 use controller::Unit;
 
 /// What is to be seen from a time on, in accepted ticks.
-#[derive(Clone, Copy, Debug, PartialEq, Eq)]
+#[derive(Clone, Debug, PartialEq, Eq)]
 pub struct Moment {
     pub ticks: u64,
     pub record: Record,
@@ -23,7 +23,7 @@ pub fn stepped(mut unit: Unit, steps: impl Iterator<Item = Step>) -> Vec<Moment>
     for step in steps {
         let refusal = step.give(&mut unit);
         ticks += step.ticks(refusal);
-        moments.push(moment(&unit, ticks, refusal, step.call()));
+        moments.push(moment(&unit, ticks, refusal, step.call().cloned()));
     }
     moments
 }

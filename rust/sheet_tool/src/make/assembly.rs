@@ -63,8 +63,8 @@ impl Assembly {
             Statement::Settings { count, setting } => self.set(count, setting),
             Statement::Steps { count, step } => {
                 self.need_room(count)?;
-                self.steps.extend(std::iter::repeat(step).take(count));
                 self.note_for_host(line, step.call().map(Call::word));
+                self.steps.extend(std::iter::repeat(step).take(count));
                 Ok(())
             }
             Statement::Repeat { count } => self.begin(line, count),

@@ -136,6 +136,38 @@ fn between_steps(word: &str, below: i64, above: i64) -> String {
     )
 }
 
+/// The numbers of a statement's fields, each within its width; no field may be
+/// missing and nothing may follow.
+pub fn fields<const N: usize>(
+    statement: &str,
+    fields: [Field; N],
+    words: &[&str],
+) -> Result<[i64; N], String> {
+    let mut numbers = [0; N];
+    for (index, field) in fields.iter().enumerate() {
+        let word = words.get(index).ok_or_else(|| missing(statement, field))?;
+        numbers[index] = field.read(word)?;
+    }
+    no_more(statement, &words[N..])?;
+    Ok(numbers)
+}
+
+pub fn missing(statement: &str, field: &Field) -> String {
+    format!("{} needs {}", statement, field.name)
+}
+
+/// Nothing may follow a statement's fields.
+pub fn no_more(statement: &str, words: &[&str]) -> Result<(), String> {
+    match words.first() {
+        None => Ok(()),
+        Some(word) => Err(format!(
+            "\"{}\" is one field too many for {}",
+            shortened(word),
+            statement
+        )),
+    }
+}
+
 /// A word of the text as a message can show it: without control characters,
 /// and not longer than a line.
 pub fn shortened(word: &str) -> String {

@@ -1,8 +1,9 @@
 //! One line of the text: a statement, or nothing.
 
+use super::call::call;
 use super::field::{
-    shortened, Field, ADDRESS, CLEAR_LEVEL, COUNT, DECAY, INPUT, LOCK, MASK, OFFSET, OFFSET_IN_PPM,
-    OFFSET_IN_STEPS, SAMPLE, SET, SET_LEVEL, SIZE, VALUE,
+    fields, missing, shortened, Field, ADDRESS, COUNT, INPUT, LOCK, MASK, OFFSET, OFFSET_IN_PPM,
+    OFFSET_IN_STEPS, SAMPLE, VALUE,
 };
 use crate::event::Event;
 use crate::fresh::TABLE;
@@ -108,7 +109,8 @@ fn repeated(count: usize, word: &str, rest: &[&str]) -> Result<Statement, String
             Event::short(WRITE, address as u8, value as u8)
         }
         _ => {
-            let step = Step::Call(call(word, rest)?);
+            let call = call(word, rest)?.ok_or_else(|| unknown(word))?;
+            let step = Step::Call(call);
             return Ok(Statement::Steps { count, step });
         }
     };
@@ -139,54 +141,10 @@ fn offset_in(unit: &str) -> Result<Field, String> {
     }
 }
 
-/// A call of the host.
-fn call(word: &str, rest: &[&str]) -> Result<Call, String> {
-    match word {
-        "bucket" => {
-            let numbers = [SET, SIZE, SET_LEVEL, CLEAR_LEVEL, DECAY];
-            let numbers = fields(word, numbers, rest)?.map(|number| number as u8);
-            let [set, size, set_level, clear_level, decay] = numbers;
-            let numbers = [size, set_level, clear_level, decay];
-            Ok(Call::SetBucket { set, numbers })
-        }
-        "assign" => {
-            let [input, set] = fields(word, [INPUT, SET], rest)?.map(|number| number as u8);
-            Ok(Call::AssignBucket { input, set })
-        }
-        _ => Err(unknown(word)),
-    }
-}
-
 fn unknown(word: &str) -> String {
     format!(
         "unknown word \"{}\"; a statement is table, setting, tick, measurement, hit, write, \
          bucket, assign, repeat or end",
         shortened(word)
     )
-}
-
-fn missing(statement: &str, field: &Field) -> String {
-    format!("{} needs {}", statement, field.name)
-}
-
-/// The numbers of a statement's fields, each within its width; no field may be
-/// missing and nothing may follow.
-fn fields<const N: usize>(
-    statement: &str,
-    fields: [Field; N],
-    words: &[&str],
-) -> Result<[i64; N], String> {
-    let mut numbers = [0; N];
-    for (index, field) in fields.iter().enumerate() {
-        let word = words.get(index).ok_or_else(|| missing(statement, field))?;
-        numbers[index] = field.read(word)?;
-    }
-    match words.get(N) {
-        None => Ok(numbers),
-        Some(word) => Err(format!(
-            "\"{}\" is one field too many for {}",
-            shortened(word),
-            statement
-        )),
-    }
 }

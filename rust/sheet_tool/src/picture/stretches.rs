@@ -46,9 +46,11 @@ pub fn refusals(moments: &[Moment]) -> Vec<(u64, u8)> {
 }
 
 /// The calls: tick and call.
-pub fn calls(moments: &[Moment]) -> Vec<(u64, Call)> {
-    let call = |moment: &Moment| moment.call.map(|call| (moment.ticks, call));
-    moments.iter().filter_map(call).collect()
+pub fn calls(moments: &[Moment]) -> Vec<(u64, &Call)> {
+    let moments = moments.iter();
+    moments
+        .filter_map(|moment| Some((moment.ticks, moment.call.as_ref()?)))
+        .collect()
 }
 
 /// The ticks at which something that is drawn over time changes.

@@ -25,7 +25,7 @@ pub fn check_host(host: &Host) {
     if let Some(table) = &host.table {
         assert_eq!(unit.load(table), 0);
     }
-    let record = |&step: &Step| {
+    let record = |step: &Step| {
         let refusal = given_to_the_model(&mut unit, step);
         let [state, qualified, status] = [0x48, 0x46, 0x49].map(|address| unit.read(address).1);
         [refusal, state, qualified, status]
@@ -48,8 +48,8 @@ fn compare(records: &[Timed], model: &[model::Record]) {
     }
 }
 
-fn given_to_the_model(unit: &mut Unit, step: Step) -> u8 {
-    match step {
+fn given_to_the_model(unit: &mut Unit, step: &Step) -> u8 {
+    match *step {
         Step::Event(Event { kind, a, b, word }) => unit.event_fields(kind, a, b, word),
         Step::Call(Call::AssignBucket { input, set }) => {
             unit.call(&model::Call::AssignBucket { input, set })
