@@ -25,3 +25,4 @@ pub mod step;
 pub mod stepped;
 pub mod table;
 pub mod time;
+pub mod week;

@@ -4,6 +4,7 @@ mod assembly;
 mod call;
 mod fault;
 mod field;
+mod place;
 mod statement;
 
 pub use fault::Fault;

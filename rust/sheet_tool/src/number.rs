@@ -21,6 +21,15 @@ pub fn whole(word: &str) -> Option<i64> {
     magnitude(digits.chars(), base).map(|number| sign * number)
 }
 
+/// A decimal number of digits alone; None if the word is none. One that is too
+/// large for every field stops at a bound.
+pub fn decimal(digits: &str) -> Option<i64> {
+    match digits {
+        "" => None,
+        digits => magnitude(digits.chars(), 10),
+    }
+}
+
 /// The steps next to a decimal number of ppm, at or below it and at or above
 /// it: twice the same if it is a whole number of them. None if the word is no
 /// such number. One that is too large for every field stops at a bound.

@@ -2,8 +2,13 @@
 //! only a host can make. Each call of the host that a text may have is here.
 
 use crate::event::Event;
+use crate::week::Window;
 use controller::{Unit, TICK};
 use std::fmt;
+use std::rc::Rc;
+
+/// A call's count of windows is a byte.
+pub const MOST_WINDOWS: usize = u8::MAX as usize;
 
 #[derive(Clone, Debug, PartialEq, Eq)]
 pub enum Step {
@@ -11,7 +16,8 @@ pub enum Step {
     Call(Call),
 }
 
-/// A call of the host, with document 02's arguments: those of #104.
+/// A call of the host, with document 02's arguments: those of #104
+/// and #107.
 #[derive(Clone, Debug, PartialEq, Eq)]
 pub enum Call {
     /// The numbers are size, set level, clear level and decay.
@@ -22,6 +28,13 @@ pub enum Call {
     AssignBucket {
         input: u8,
         set: u8,
+    },
+    SetWeek {
+        place: u32,
+    },
+    /// As many as fit the count, also more than the unit takes.
+    SetWindows {
+        windows: Rc<[Window]>,
     },
 }
 
@@ -50,7 +63,7 @@ impl Step {
 
 impl Call {
     /// The words of their statements.
-    pub const WORDS: [&'static str; 2] = ["bucket", "assign"];
+    pub const WORDS: [&'static str; 4] = ["bucket", "assign", "week", "windows"];
 
     fn give(&self, unit: &mut Unit) -> u8 {
         match *self {
@@ -59,6 +72,11 @@ impl Call {
                 unit.set_bucket(set, size, set_level, clear_level, decay)
             }
             Call::AssignBucket { input, set } => unit.assign_bucket(input, set),
+            Call::SetWeek { place } => unit.set_week(place),
+            Call::SetWindows { ref windows } => {
+                let count = windows.len().min(MOST_WINDOWS) as u8;
+                unit.set_windows(count, &numbers(windows))
+            }
         }
     }
 
@@ -67,11 +85,22 @@ impl Call {
         match self {
             Call::SetBucket { .. } => Call::WORDS[0],
             Call::AssignBucket { .. } => Call::WORDS[1],
+            Call::SetWeek { .. } => Call::WORDS[2],
+            Call::SetWindows { .. } => Call::WORDS[3],
         }
     }
 }
 
-/// The statement, as a text has it.
+/// Start and end of each of the first eight windows, and 0 where there is none.
+fn numbers(windows: &[Window]) -> [u32; 16] {
+    let mut numbers = [0; 16];
+    for (pair, window) in numbers.chunks_mut(2).zip(windows) {
+        pair.copy_from_slice(&[window.start, window.end]);
+    }
+    numbers
+}
+
+/// The statement, as a text has it; places are in ticks.
 impl fmt::Display for Call {
     fn fmt(&self, f: &mut fmt::Formatter) -> fmt::Result {
         let word = self.word();
@@ -82,6 +111,12 @@ impl fmt::Display for Call {
                 write!(f, "{} {} {} {}", word, set, levels, decay)
             }
             Call::AssignBucket { input, set } => write!(f, "{} {} {}", word, input, set),
+            Call::SetWeek { place } => write!(f, "{} {}", word, place),
+            Call::SetWindows { ref windows } if windows.is_empty() => write!(f, "{} none", word),
+            Call::SetWindows { ref windows } => {
+                let windows: Vec<_> = windows.iter().map(Window::to_string).collect();
+                write!(f, "{} {}", word, windows.join(", "))
+            }
         }
     }
 }

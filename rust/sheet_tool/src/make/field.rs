@@ -26,6 +26,8 @@ enum Form {
     Steps,
     /// A decimal number of ppm. It is read as steps of 1/64 ppm.
     Ppm,
+    /// A number of ticks, where a time may have been meant.
+    Place,
 }
 
 const fn field(name: &'static str, least: i64, most: i64) -> Field {
@@ -41,6 +43,13 @@ const fn offset(form: Form, least: i64, most: i64) -> Field {
     Field {
         form,
         ..field("OFFSET", least, most)
+    }
+}
+
+const fn place(name: &'static str) -> Field {
+    Field {
+        form: Form::Place,
+        ..field(name, 0, u32::MAX as i64)
     }
 }
 
@@ -63,10 +72,17 @@ pub const OFFSET: Field = offset(Form::Offset, i8::MIN as i64, i8::MAX as i64);
 /// In steps of 1/64 ppm.
 pub const OFFSET_IN_STEPS: Field = offset(Form::Steps, i16::MIN as i64, i16::MAX as i64);
 pub const OFFSET_IN_PPM: Field = offset(Form::Ppm, i16::MIN as i64, i16::MAX as i64);
+pub const PLACE: Field = place("PLACE");
+pub const START: Field = place("START");
+pub const END: Field = place("END");
 pub const COUNT: Field = field("COUNT", 1, MOST_REPEATS);
 
 /// Said of an offset that may have been meant in ppm.
 const IN_PPM: &str = "; in ppm it is written as in measurement 3 0.484375 ppm";
+
+/// What a place may be.
+const A_PLACE: &str =
+    "a number of ticks, a time such as 55:30, or a day and a time such as mon 07:30";
 
 impl Field {
     /// The number that a word is in this field, or why it is none.
@@ -86,7 +102,7 @@ impl Field {
         let number = match self.form {
             Form::Ppm => return steps(word),
             Form::Address => registers::address(word).map(i64::from),
-            Form::Number | Form::Offset | Form::Steps => None,
+            Form::Number | Form::Offset | Form::Steps | Form::Place => None,
         };
         let number = number.or_else(|| whole(word))?;
         Some((number, number))
@@ -98,6 +114,7 @@ impl Field {
             Form::Address => ("a number or a register's name", ""),
             Form::Offset | Form::Steps => ("a whole number", IN_PPM),
             Form::Ppm => ("a decimal number of ppm, such as -12.5", ""),
+            Form::Place => (A_PLACE, ""),
         };
         format!(
             "{} is {}, not \"{}\"{}",

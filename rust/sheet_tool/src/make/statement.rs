@@ -144,7 +144,7 @@ fn offset_in(unit: &str) -> Result<Field, String> {
 fn unknown(word: &str) -> String {
     format!(
         "unknown word \"{}\"; a statement is table, setting, tick, measurement, hit, write, \
-         bucket, assign, repeat or end",
+         bucket, assign, week, windows, repeat or end",
         shortened(word)
     )
 }

@@ -1,16 +1,16 @@
 //! Texts with calls of the host: what they may say, their runs and pictures,
 //! and that no sheet is made of them.
 
-use crate::hosts::{check_fault, check_no_sheet, host};
+use crate::hosts::{check_fault, check_no_sheet, host, with_calls};
 use crate::process::sheet_with;
 use crate::random;
 use crate::same_records::check_host;
 use crate::xml::texts;
 use controller::Unit;
 use shared::random::Random;
-use sheet_tool::make::{make, script, Fault};
+use sheet_tool::make::{make, script};
 use sheet_tool::records::run;
-use sheet_tool::script::{timed, Host};
+use sheet_tool::script::timed;
 use sheet_tool::step::{Call, Step};
 use sheet_tool::stepped::stepped;
 
@@ -150,23 +150,8 @@ fn a_refused_call_leaves_the_run_as_it_is() {
 fn calls_in_random_texts() {
     let mut random = Random::new(8);
     for _ in 0..100 {
-        let events = random.below(400) as usize;
-        let sheet = random::sheet(&mut random, 10, events);
-        let mut steps: Vec<_> = sheet.steps().map(Step::Event).collect();
-        for _ in 0..random.between(1, 20) {
-            let place = random.below(steps.len() as u32 + 1) as usize;
-            steps.insert(place, Step::Call(call(&mut random)));
-        }
-        let no_sheet = Fault {
-            line: 1,
-            reason: String::new(),
-        };
-        let table = None;
-        check_host(&Host {
-            table,
-            steps,
-            no_sheet,
-        });
+        let (_, host) = with_calls(&mut random, call);
+        check_host(&host);
     }
 }
 

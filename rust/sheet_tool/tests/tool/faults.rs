@@ -20,7 +20,7 @@ fn check(text: &str, line: usize, reason: &str) {
 #[test]
 fn unknown_words() {
     let words = "a statement is table, setting, tick, measurement, hit, write, bucket, assign, \
-                 repeat or end";
+                 week, windows, repeat or end";
     check(
         "tock 0 0 0",
         1,

@@ -3,8 +3,12 @@
 
 use crate::files::{absent, present, read};
 use crate::process::{sheet, Outcome};
+use crate::random;
+use shared::random::Random;
 use sheet_tool::make::{make, script, Fault};
 use sheet_tool::script::{Host, Script};
+use sheet_tool::sheet::Sheet;
+use sheet_tool::step::{Call, Step};
 use std::path::Path;
 
 /// What a text for a host says.
@@ -13,6 +17,28 @@ pub fn host(text: &str) -> Host {
         Ok(Script::Host(host)) => host,
         other => panic!("{:?}", other),
     }
+}
+
+/// A random sheet, and a host that takes its steps with calls between them.
+pub fn with_calls(random: &mut Random, call: impl Fn(&mut Random) -> Call) -> (Sheet, Host) {
+    let events = random.below(400) as usize;
+    let sheet = random::sheet(random, 10, events);
+    let mut steps: Vec<_> = sheet.steps().map(Step::Event).collect();
+    for _ in 0..random.between(1, 20) {
+        let place = random.below(steps.len() as u32 + 1) as usize;
+        steps.insert(place, Step::Call(call(random)));
+    }
+    let no_sheet = Fault {
+        line: 1,
+        reason: String::new(),
+    };
+    let table = None;
+    let host = Host {
+        table,
+        steps,
+        no_sheet,
+    };
+    (sheet, host)
 }
 
 #[track_caller]

@@ -1,5 +1,6 @@
 //! The sheet tool's tests: its parts as functions, and the program as a process.
 
+mod busy_hours;
 mod calls;
 mod commands;
 mod examples;
@@ -11,6 +12,7 @@ mod hosts;
 mod outputs;
 mod pages;
 mod pictures;
+mod places;
 mod process;
 mod program;
 mod random;
