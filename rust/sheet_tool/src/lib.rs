@@ -1,7 +1,8 @@
 //! The sheet tool: a run sheet made from a readable text, shown as that text,
 //! run, printed, and drawn; a text with calls of the host, or with a table of
 //! fresh values, is run and drawn. Every answer comes from the controller's
-//! exported functions; none of its rules is written here again.
+//! exported functions; none of its rules is written here again, but which places
+//! a window has, for the pictures.
 
 #![forbid(unsafe_code)]
 

@@ -1,6 +1,7 @@
 //! The run over time as a picture: `picture`.
 
 mod axis;
+mod busy_hours;
 mod fills;
 mod layout;
 mod legend;
@@ -24,6 +25,7 @@ pub fn picture(title: &str, moments: &[Moment]) -> String {
     let changes = changes(moments);
     let scale = scale(&changes, moments);
     let mut svg = Svg::default();
+    busy_hours::draw(&mut svg, &scale, moments);
     heading(&mut svg, title, moments);
     axis::draw(&mut svg, &scale);
     marks::change_times(&mut svg, &scale, &changes);

@@ -4,6 +4,7 @@
 use crate::records::{Record, Timed};
 use crate::sheet::Sheet;
 use crate::step::{Call, Step};
+use crate::week::is_busy;
 use controller::Unit;
 
 /// What is to be seen from a time on, in accepted ticks.
@@ -12,18 +13,29 @@ pub struct Moment {
     pub ticks: u64,
     pub record: Record,
     pub available: u8,
+    /// Whether the last tick's place was in a window of the busy hours; before
+    /// the first tick, whether that one's will be.
+    pub busy: bool,
     /// The call that it comes after, if one.
     pub call: Option<Call>,
 }
 
 /// The unit, and then as it is after each step.
 pub fn stepped(mut unit: Unit, steps: impl Iterator<Item = Step>) -> Vec<Moment> {
-    let mut moments = vec![moment(&unit, 0, 0, None)];
+    let mut busy = is_busy(&unit.week);
+    let mut moments = vec![moment(&unit, 0, busy, 0, None)];
     let mut ticks = 0;
     for step in steps {
+        let in_window = is_busy(&unit.week);
         let refusal = step.give(&mut unit);
-        ticks += step.ticks(refusal);
-        moments.push(moment(&unit, ticks, refusal, step.call().cloned()));
+        let passed = step.ticks(refusal);
+        ticks += passed;
+        if passed > 0 {
+            busy = in_window;
+        } else if ticks == 0 {
+            busy = is_busy(&unit.week);
+        }
+        moments.push(moment(&unit, ticks, busy, refusal, step.call().cloned()));
     }
     moments
 }
@@ -40,7 +52,7 @@ pub fn moments(sheet: &Sheet, records: &[Timed]) -> Result<Vec<Moment>, String> 
     Ok(moments)
 }
 
-fn moment(unit: &Unit, ticks: u64, refusal: u8, call: Option<Call>) -> Moment {
+fn moment(unit: &Unit, ticks: u64, busy: bool, refusal: u8, call: Option<Call>) -> Moment {
     let byte = |address| unit.read(address).1;
     Moment {
         ticks,
@@ -51,6 +63,7 @@ fn moment(unit: &Unit, ticks: u64, refusal: u8, call: Option<Call>) -> Moment {
             status: byte(0x49),
         },
         available: byte(0x47),
+        busy,
         call,
     }
 }

@@ -1,6 +1,8 @@
-//! The week of the busy hours, document 02's #107: times as ticks, and windows.
+//! The week of the busy hours, document 02's #107: times as ticks, windows, and
+//! whether a unit's place is in one.
 
 use crate::number::decimal;
+use controller::Week;
 use std::fmt;
 
 /// The days in the order of the week: whoever writes one says that Monday 00:00
@@ -39,4 +41,11 @@ pub fn minutes(time: &str) -> Option<i64> {
     let part = decimal(minutes).filter(|&part| minutes.len() == 2 && part < per_hour)?;
     let whole = decimal(hours)?.saturating_mul(per_hour);
     Some(whole.saturating_add(part))
+}
+
+/// Whether the unit's place is in a window. A pair whose start is not before its
+/// end is none.
+pub fn is_busy(week: &Week) -> bool {
+    let in_window = |pair: &[u32]| (pair[0]..pair[1]).contains(&week.place);
+    week.windows.chunks(2).any(in_window)
 }

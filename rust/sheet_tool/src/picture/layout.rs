@@ -18,6 +18,9 @@ pub const REFUSED: Row = Row { y: 396, height: 21 };
 /// Where the lines through the rows end, above the refusals' numbers.
 pub const LINES_END: u64 = 391;
 
+/// What the bands behind the rows take: the times of changes too.
+pub const BANDS: Row = Row { y: 66, height: 325 };
+
 pub const AXIS_Y: u64 = 424;
 pub const AXIS_LABELS_Y: u64 = 440;
 

@@ -1,11 +1,12 @@
 //! What the fills, bars and lines mean, the reasons of the refusals that are
 //! marked, and the calls.
 
+use super::busy_hours::{self, BAND};
 use super::fills::state_fill;
 use super::layout::{Row, LEGEND_Y, NOTES_Y, NOTE_HEIGHT};
 use super::marks::CALL_LINE;
 use super::rows::{selected_line, BAR, SELECTED_LINE};
-use super::scale::LEFT;
+use super::scale::{LEFT, RIGHT};
 use super::stretches::{calls, refusals};
 use super::svg::{text_width, Anchor, Svg, NORMAL};
 use crate::records::state_name;
@@ -18,6 +19,8 @@ const SWATCH: u64 = 18;
 const GAP: u64 = 6;
 /// So many calls are told; of more, how many they are.
 const MOST_CALLS: usize = 12;
+/// So many lines a note has; of a longer one they are the first.
+const MOST_LINES: usize = 2;
 
 /// Draws the legend and says how high the picture is with it.
 pub fn draw(svg: &mut Svg, moments: &[Moment]) -> u64 {
@@ -38,7 +41,11 @@ pub fn draw(svg: &mut Svg, moments: &[Moment]) -> u64 {
     if !calls(moments).is_empty() {
         let line = format!("M{} {}V{}", x + SWATCH / 2, row.y, row.bottom());
         svg.path(&line, CALL_LINE);
-        name(svg, x, "call");
+        x = name(svg, x, "call");
+    }
+    if busy_hours::any(moments) {
+        svg.areas([row.area(x, x + SWATCH)], BAND);
+        name(svg, x, "busy hours");
     }
     notes(svg, moments)
 }
@@ -55,8 +62,10 @@ fn notes(svg: &mut Svg, moments: &[Moment]) -> u64 {
     let numbers: BTreeSet<u8> = refusals.iter().map(|&(_, number)| number).collect();
     let mut y = NOTES_Y;
     let mut note = |note: String| {
-        svg.text(LEFT, y, NORMAL, Anchor::Start, &note);
-        y += NOTE_HEIGHT;
+        for line in lines(&note) {
+            svg.text(LEFT, y, NORMAL, Anchor::Start, line.trim_end());
+            y += NOTE_HEIGHT;
+        }
     };
     for number in numbers {
         note(format!("refused {}: {}", number, reason(number)));
@@ -69,4 +78,22 @@ fn notes(svg: &mut Svg, moments: &[Moment]) -> u64 {
         note(format!("and {} calls more", calls.len() - MOST_CALLS));
     }
     y
+}
+
+/// A note in lines as wide as the rows; commas part it.
+fn lines(note: &str) -> Vec<String> {
+    let mut lines = vec![String::new()];
+    for part in note.split_inclusive(", ") {
+        let last = lines.len() - 1;
+        let longer = format!("{}{}", lines[last], part);
+        if text_width(longer.trim_end(), NORMAL) <= RIGHT - LEFT || lines[last].is_empty() {
+            lines[last] = longer;
+        } else if lines.len() < MOST_LINES {
+            lines.push(part.to_string());
+        } else {
+            lines[last] += "...";
+            break;
+        }
+    }
+    lines
 }

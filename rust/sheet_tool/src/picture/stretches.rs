@@ -57,7 +57,7 @@ pub fn calls(moments: &[Moment]) -> Vec<(u64, &Call)> {
 pub fn changes(moments: &[Moment]) -> Vec<u64> {
     let drawn = |moment: &Moment| {
         let record = moment.record;
-        (record.state, record.ready(), moment.available)
+        (record.state, record.ready(), moment.available, moment.busy)
     };
     let stretches = stretches(moments, drawn);
     stretches
