@@ -16,8 +16,7 @@ pub enum Step {
     Call(Call),
 }
 
-/// A call of the host, with document 02's arguments: those of #104
-/// and #107.
+/// A call of the host, with document 02's arguments: those of #104 and #107.
 #[derive(Clone, Debug, PartialEq, Eq)]
 pub enum Call {
     /// The numbers are size, set level, clear level and decay.

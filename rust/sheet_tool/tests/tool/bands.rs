@@ -163,3 +163,12 @@ fn notes() {
         assert_eq!(texts[texts.len() - 2..], [first.as_str(), second.as_str()]);
     }
 }
+
+/// Every second tick is in a window.
+#[test]
+fn a_picture_of_many_bands_stays_small() {
+    let svg = drawn("windows 0 to 1, 2 to 3\nrepeat 3000\nweek 0\n4 x tick 0 0 0\nend");
+    assert!(texts(&svg).contains(&"and 2989 calls more"));
+    assert!(areas(&svg)[0].len() > 100);
+    assert!(svg.len() < 70_000, "{} bytes", svg.len());
+}
