@@ -1,13 +1,14 @@
 //! Texts with the calls of the busy hours: what they may say, what reaches the
 //! unit, and their runs. How places in the week are written is in `places`.
 
+use crate::files::{example, read_text};
 use crate::hosts::{check_fault, check_no_sheet, host, with_calls};
 use crate::process::sheet_with;
 use crate::same_records::check_host;
 use controller::Unit;
 use shared::random::Random;
 use sheet_tool::records::run;
-use sheet_tool::script::timed;
+use sheet_tool::script::{timed, Host};
 use sheet_tool::step::{Call, Step};
 use sheet_tool::week::Window;
 
@@ -210,10 +211,8 @@ fn random_call(random: &mut Random) -> Call {
         let place = random.pick(&[place, place, WEEK - place, any]);
         return Call::SetWeek { place };
     }
-    let mut bounds: Vec<u32> = (0..2 * random.below(10)).collect();
-    for bound in &mut bounds {
-        *bound = random.below(400);
-    }
+    let count = 2 * random.below(10);
+    let mut bounds: Vec<_> = (0..count).map(|_| random.below(400)).collect();
     if !random.one_in(8) {
         bounds.sort_unstable();
     }
@@ -324,4 +323,44 @@ fn calls_in_a_window() {
 fn a_lost_reference_is_left_in_a_window() {
     let text = reversion("windows 0 to 1000\n") + "6 x tick 2 1 0\n";
     assert_eq!(switches(&text), [(79, 2), (285, 1)]);
+}
+
+/// The reversion wait before the first tick, and then after each.
+fn waits(host: &Host) -> Vec<u64> {
+    let mut unit = Unit::fresh();
+    let mut waits = vec![unit.choice.wait];
+    for step in &host.steps {
+        let refusal = step.give(&mut unit);
+        if step.ticks(refusal) > 0 {
+            waits.push(unit.choice.wait);
+        }
+    }
+    waits
+}
+
+/// What the example says of the switches and of the wait; without its windows
+/// the unit goes back to input 1 when the wait is over.
+#[test]
+fn the_example() {
+    let text = read_text(&example("busy-hours", "txt"));
+    let told = [(79, 1), (166, 2), (938, 1), (1_066, 2), (1_706, 1)];
+    assert_eq!(switches(&text), told);
+    let waits = waits(&host(&text));
+    for (tick, wait) in [
+        (247, 0),
+        (248, 1),
+        (716, 469),
+        (717, 470),
+        (937, 470),
+        (938, 0),
+        (1_148, 1),
+        (1_617, 470),
+        (1_705, 470),
+        (1_706, 0),
+    ] {
+        assert_eq!(waits[tick], wait, "tick {}", tick);
+    }
+    let without = text.replace("\nwindows ", "\nwindows none # ");
+    let over = [(79, 1), (166, 2), (717, 1), (1_066, 2), (1_617, 1)];
+    assert_eq!(switches(&without), over);
 }
