@@ -381,7 +381,7 @@ pub struct Outcome {
     pub unit: Unit,
 }
 
-// The rule `outcome`: an event's number, and the unit that it leaves.
+// The rule `outcome`: an event's number, and the unit that it leaves. What an event may change is copied; the windows are lent where they lie.
 pub fn handle(e: Event, u: Unit) -> Outcome
     ensures { λ r. ⌜ Gives (partsOf u) (eventOf e) (r .refusal) (partsOf (r .unit)) ⌝ }
 {
@@ -404,7 +404,6 @@ pub fn handle(e: Event, u: Unit) -> Outcome
     let mut building = h.building;
     let mut backup = h.backup;
     let mut keys = candidates::keys_of(&regs);
-    let windows = u.week.windows;
     let s = step(
         e,
         core_of(u),
@@ -420,7 +419,7 @@ pub fn handle(e: Event, u: Unit) -> Outcome
         &lasts,
         &mut regs,
         &mut keys,
-        &windows,
+        &u.week.windows,
         &mut sums,
         &mut building,
         &mut backup,
@@ -451,7 +450,7 @@ pub fn handle(e: Event, u: Unit) -> Outcome
             holding: c.holding,
             week: Week {
                 place: c.place,
-                windows: windows,
+                windows: u.week.windows,
             },
             pll: p,
             regs: regs,
