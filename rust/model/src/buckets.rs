@@ -1,5 +1,5 @@
-//! The four bucket sets, which input has which, and the calls that change them.
-//! Sentences in quotation marks are document 02's, #104.
+//! The four bucket sets, which input has which, and what the calls change of
+//! them. Sentences in quotation marks are document 02's, #104.
 
 use crate::refusal::Refusal;
 
@@ -41,15 +41,8 @@ impl BucketSet {
     }
 }
 
-/// The calls. They are events of a unit's history as the others are; a run
-/// sheet has no place for them.
-#[derive(Clone, Copy, Debug, PartialEq, Eq)]
-pub enum Call {
-    /// "Setting [...] a set"
-    SetBucket { set: u8, numbers: BucketSet },
-    /// "[...] assigning a set"
-    AssignBucket { input: u8, set: u8 },
-}
+/// The sets after a call, and the inputs that it concerns.
+pub(crate) type Changed = (Buckets, Vec<u8>);
 
 /// The sets, and the set of each input.
 #[derive(Clone, Copy, Debug, PartialEq, Eq)]
@@ -80,32 +73,30 @@ impl Buckets {
         (1..=8).filter(has_it).collect()
     }
 
-    /// The sets after a call, and the inputs that it concerns; or the first of
-    /// 6 and 14 that holds. "14: set out of these bounds or set number over 3;
-    /// an input not 1 to 8 gives 6 and is checked before it."
+    /// "14: set out of these bounds or set number over 3"
     ///
-    /// Reading: setting concerns the inputs that have the set now, assigning
-    /// the one input alone.
-    pub(crate) fn called(mut self, call: &Call) -> Result<(Buckets, Vec<u8>), Refusal> {
-        match *call {
-            Call::SetBucket { set, numbers } => {
-                if !set_exists(set) || !numbers.within_bounds() {
-                    return Err(Refusal::NoSuchBucketSet);
-                }
-                self.sets[usize::from(set)] = numbers;
-                Ok((self, self.inputs_with(set)))
-            }
-            Call::AssignBucket { input, set } => {
-                if !(1..=8).contains(&input) {
-                    return Err(Refusal::NoSuchInput);
-                }
-                if !set_exists(set) {
-                    return Err(Refusal::NoSuchBucketSet);
-                }
-                self.assigned[usize::from(input) - 1] = set;
-                Ok((self, vec![input]))
-            }
+    /// Reading: setting concerns the inputs that have the set now.
+    pub(crate) fn with_set(mut self, set: u8, numbers: BucketSet) -> Result<Changed, Refusal> {
+        if !set_exists(set) || !numbers.within_bounds() {
+            return Err(Refusal::NoSuchBucketSet);
         }
+        self.sets[usize::from(set)] = numbers;
+        Ok((self, self.inputs_with(set)))
+    }
+
+    /// "14: [...] set number over 3; an input not 1 to 8 gives 6 and is checked
+    /// before it."
+    ///
+    /// Reading: assigning concerns the one input alone.
+    pub(crate) fn with_assigned(mut self, input: u8, set: u8) -> Result<Changed, Refusal> {
+        if !(1..=8).contains(&input) {
+            return Err(Refusal::NoSuchInput);
+        }
+        if !set_exists(set) {
+            return Err(Refusal::NoSuchBucketSet);
+        }
+        self.assigned[usize::from(input) - 1] = set;
+        Ok((self, vec![input]))
     }
 }
 

@@ -10,7 +10,8 @@ pub use buckets::Sets;
 pub use pages::print;
 
 use crate::blocks::{BLOCKS_KEPT, SAMPLES_PER_BLOCK};
-use crate::buckets::{Buckets, Call};
+use crate::buckets::{Buckets, Changed};
+use crate::calls::Call;
 use crate::event::Event;
 use crate::history::BLOCKS_FOR_READY;
 use crate::monitors::{finer_limit, finer_offset, LOCK_ALARM_TICKS, SOAK_TICKS};
@@ -303,11 +304,17 @@ impl Unit {
 
     /// Takes one call: 0, or the number of its refusal.
     pub fn call(&mut self, call: &Call) -> u8 {
-        number_of(self.change_buckets(call))
+        let buckets = self.sets.buckets;
+        number_of(match *call {
+            Call::SetBucket { set, numbers } => self.change_buckets(buckets.with_set(set, numbers)),
+            Call::AssignBucket { input, set } => {
+                self.change_buckets(buckets.with_assigned(input, set))
+            }
+        })
     }
 
-    fn change_buckets(&mut self, call: &Call) -> Result<(), Refusal> {
-        let (buckets, concerned) = self.sets.buckets.called(call)?;
+    fn change_buckets(&mut self, changed: Result<Changed, Refusal>) -> Result<(), Refusal> {
+        let (buckets, concerned) = changed?;
         for input in concerned {
             self.monitors.start_bucket(input, buckets.of(input).size);
         }

@@ -1,14 +1,15 @@
 //! The reference controller of the eight-input timing unit, written plainly
 //! from document 01 and from the requests of document 02. It is compared with
 //! the real controller; it shares no code with it. Sentences in quotation marks
-//! are document 01's, in `buckets`, `building`, `pages` and `tables` document
-//! 02's.
+//! are document 01's, in `buckets`, `building`, `calls`, `pages` and `tables`
+//! document 02's.
 
 #![forbid(unsafe_code)]
 
 mod blocks;
 mod buckets;
 mod building;
+mod calls;
 mod event;
 pub mod fast;
 mod history;
@@ -25,7 +26,8 @@ mod tables;
 mod unit;
 
 pub use blocks::{Blocks, OpenBlock, BLOCKS_KEPT, SAMPLES_PER_BLOCK};
-pub use buckets::{BucketSet, Buckets, Call, BUCKET_SETS};
+pub use buckets::{BucketSet, Buckets, BUCKET_SETS};
+pub use calls::Call;
 pub use event::Event;
 pub use history::{History, BLOCKS_FOR_READY};
 pub use monitors::{finer_limit, finer_offset, Input, LOCK_ALARM_TICKS, SOAK_TICKS};

@@ -1,7 +1,8 @@
 //! The whole unit: its state, and what each of its events does to it.
 
-use crate::buckets::{Buckets, Call};
+use crate::buckets::{Buckets, Changed};
 use crate::building::Building;
+use crate::calls::Call;
 use crate::event::Event;
 use crate::history::{HistoryUnder, SwitchRules};
 use crate::monitors::{finer_offset, Input};
@@ -82,7 +83,14 @@ impl<R: SwitchRules> UnitUnder<R> {
     /// Takes one call: 0, or the number of the refusal that turned it down and
     /// left the state as it was.
     pub fn call(&mut self, call: &Call) -> u8 {
-        number_of(self.change_buckets(call))
+        number_of(match *call {
+            Call::SetBucket { set, numbers } => {
+                self.change_buckets(self.buckets.with_set(set, numbers))
+            }
+            Call::AssignBucket { input, set } => {
+                self.change_buckets(self.buckets.with_assigned(input, set))
+            }
+        })
     }
 
     /// Takes the fields of one event; 12 if they are no event.
@@ -211,8 +219,8 @@ impl<R: SwitchRules> UnitUnder<R> {
 
     /// Document 02, #104: "Setting or assigning a set, even as it was, puts
     /// each input it concerns at level S, alarm set, decay count 0."
-    fn change_buckets(&mut self, call: &Call) -> Result<(), Refusal> {
-        let (buckets, concerned) = self.buckets.called(call)?;
+    fn change_buckets(&mut self, changed: Result<Changed, Refusal>) -> Result<(), Refusal> {
+        let (buckets, concerned) = changed?;
         for input in concerned {
             self.input_mut(input).start_bucket(&buckets.of(input));
         }
