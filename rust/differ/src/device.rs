@@ -86,6 +86,8 @@ impl Device for controller::Unit {
                 numbers.decay,
             ),
             Call::AssignBucket { input, set } => self.assign_bucket(input, set),
+            Call::SetWeek { place } => self.set_week(place),
+            Call::SetWindows { count, numbers } => self.set_windows(count, &numbers),
         }
     }
 

@@ -17,3 +17,4 @@ pub mod scenarios;
 pub mod sent;
 pub mod shrink;
 pub mod table;
+pub mod windows;

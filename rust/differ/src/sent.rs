@@ -1,8 +1,9 @@
-//! What is sent to a unit: the fields of an event, a call of #104, or a table
-//! of #105 to be loaded.
+//! What is sent to a unit: the fields of an event, a call of #104 or #107, or a
+//! table of #105 to be loaded.
 
 use crate::fields::Fields;
 use crate::table::Table;
+use crate::windows::{plainer_windows, show_windows};
 use model::{BucketSet, Call, Event, BYTES_PER_TABLE};
 use std::fmt;
 
@@ -63,6 +64,11 @@ impl Sent {
                 Call::AssignBucket { input: 1, set }.into(),
                 Call::AssignBucket { input, set: 0 }.into(),
             ],
+            Sent::Call(Call::SetWeek { .. }) => vec![Call::SetWeek { place: 0 }.into()],
+            Sent::Call(Call::SetWindows { count, numbers }) => plainer_windows(count, numbers)
+                .into_iter()
+                .map(Sent::Call)
+                .collect(),
             Sent::Load(table) => table.plainer().into_iter().map(Sent::Load).collect(),
         }
     }
@@ -104,6 +110,8 @@ impl fmt::Display for Sent {
             Sent::Call(Call::AssignBucket { input, set }) => {
                 write!(f, "assign bucket input {} set {}", input, set)
             }
+            Sent::Call(Call::SetWeek { place }) => write!(f, "set week place {}", place),
+            Sent::Call(Call::SetWindows { count, numbers }) => show_windows(f, count, numbers),
             Sent::Load(table) => write!(f, "load {}", table),
         }
     }

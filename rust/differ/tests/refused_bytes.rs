@@ -6,7 +6,7 @@
 #[path = "devices/held.rs"]
 mod held;
 
-use controller::{Buckets, Choice, History, Loop, Monitors, Set, Tally, Unit};
+use controller::{Buckets, Choice, History, Loop, Monitors, Set, Tally, Unit, Week};
 use differ::coverage::Coverage;
 use differ::fields::Fields;
 use differ::run::{names, run_lists};
@@ -39,6 +39,7 @@ fn places_of_fields(unit: &Unit) -> Vec<Range<usize>> {
         history,
         choice,
         holding,
+        week,
         pll,
         regs,
     } = unit;
@@ -72,6 +73,7 @@ fn places_of_fields(unit: &Unit) -> Vec<Range<usize>> {
         selected,
         aim,
     } = choice;
+    let Week { place: at, windows } = week;
     let Loop { unlock, mode, lock } = pll;
     let mut places = Vec::new();
     let rows = [level, decay, active, frequency, remainder, soak, assigned];
@@ -92,7 +94,8 @@ fn places_of_fields(unit: &Unit) -> Vec<Range<usize>> {
     let counts = [count, built, backed, builds];
     places.extend(counts.map(|byte| place(unit, byte)));
     places.extend([last, command, selected, aim].map(|byte| place(unit, byte)));
-    places.extend([place(unit, wait), place(unit, holding)]);
+    places.extend([place(unit, wait), place(unit, windows)]);
+    places.extend([holding, at].map(|number| place(unit, number)));
     places.extend([place(unit, open), place(unit, regs)]);
     places
 }
@@ -113,6 +116,17 @@ const fn set(set: u8, size: u8, set_level: u8, clear_level: u8, decay: u8) -> Se
 
 const fn assign(input: u8, set: u8) -> Sent {
     Sent::Call(Call::AssignBucket { input, set })
+}
+
+const fn week(place: u32) -> Sent {
+    Sent::Call(Call::SetWeek { place })
+}
+
+/// The call that sets so many windows, the first of these numbers.
+const fn windows(count: u8, first: [u32; 6]) -> Sent {
+    let [a, b, c, d, e, f] = first;
+    let numbers = [a, b, c, d, e, f, 0, 0, 0, 0, 0, 0, 0, 0, 0, 0];
+    Sent::Call(Call::SetWindows { count, numbers })
 }
 
 /// Tables that no unit is made from.
@@ -136,7 +150,7 @@ fn refused() -> Vec<(u8, Sent)> {
 }
 
 /// Events and calls that a fresh unit refuses, with the number.
-const REFUSED: [(u8, Sent); 33] = [
+const REFUSED: [(u8, Sent); 46] = [
     (1, event(3, 0x00, 1, 0)),
     (1, event(3, 0x4f, 0, 0)),
     (2, event(3, 0x48, 0, 0)),
@@ -170,6 +184,19 @@ const REFUSED: [(u8, Sent); 33] = [
     (6, assign(0, 0)),
     (6, assign(9, 3)),
     (6, assign(9, 4)),
+    (16, week(4_725_000)),
+    (16, week(u32::MAX)),
+    (16, windows(9, [0, 1, 2, 3, 4, 5])),
+    (16, windows(255, [0, 1, 2, 3, 4, 5])),
+    (16, windows(1, [5, 5, 0, 0, 0, 0])),
+    (16, windows(1, [6, 5, 0, 0, 0, 0])),
+    (16, windows(1, [5, 4_725_001, 0, 0, 0, 0])),
+    (16, windows(1, [0, 4_725_000, 0, 0, 0, 0])),
+    (16, windows(2, [0, 1, 1, 2, 0, 0])),
+    (16, windows(2, [4, 9, 0, 3, 0, 0])),
+    (16, windows(2, [0, 1, 9, 4_725_000, 0, 0])),
+    (16, windows(3, [0, 1, 2, 3, 3, 4])),
+    (16, windows(4, [1, 2, 3, 4, 5, 6])),
 ];
 
 #[test]
@@ -182,7 +209,7 @@ fn each_refusal_leaves_the_bytes_of_a_fresh_unit() {
 
 /// The numbers of the refusals of events, calls and tables.
 fn numbers() -> impl Iterator<Item = u8> {
-    (1..=8).chain([12, 14, 15])
+    (1..=8).chain([12, 14, 15, 16])
 }
 
 /// Any bytes, a third of them 0 and a third small: most are a unit that no

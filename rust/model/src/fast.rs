@@ -5,6 +5,7 @@
 
 mod buckets;
 mod pages;
+mod reversion;
 
 pub use buckets::Sets;
 pub use pages::print;
@@ -21,6 +22,7 @@ use crate::registers::{Register, Settings};
 use crate::selection::{Wait, FREE_RUN, NONE};
 use crate::sheet::{self, Record, BYTES_PER_EVENT, BYTES_PER_RECORD, BYTES_PER_SETTING};
 use crate::unit::SAMPLE_LIMIT;
+use crate::week::Week;
 use std::ops::RangeInclusive;
 
 const SAMPLES: RangeInclusive<i32> = -SAMPLE_LIMIT..=SAMPLE_LIMIT;
@@ -264,6 +266,7 @@ pub struct Unit {
     pub pll: Pll,
     pub selected: u8,
     pub wait: Wait,
+    pub week: Week,
     pub history: History,
     pub holdover_ticks: u64,
     pub settings: Settings,
@@ -284,6 +287,7 @@ impl Unit {
             pll: Pll::fresh(),
             selected: NONE,
             wait: Wait::ZERO,
+            week: Week::fresh(),
             history: History::fresh(),
             holdover_ticks: 0,
             settings,
@@ -310,6 +314,8 @@ impl Unit {
             Call::AssignBucket { input, set } => {
                 self.change_buckets(buckets.with_assigned(input, set))
             }
+            Call::SetWeek { place } => self.week.set_place(place),
+            Call::SetWindows { count, numbers } => self.week.set_windows(count, &numbers),
         })
     }
 
@@ -376,6 +382,7 @@ impl Unit {
             }
         }
         self.select();
+        self.week.advance();
         let state = self.pll.state;
         self.history.end_of_tick(state == State::Locked, sample);
         let stayed = state_before == State::Holdover && state == State::Holdover;
@@ -419,7 +426,7 @@ impl Unit {
         if candidates & selected_bit == 0 {
             return best;
         }
-        self.wait.choose(self.selected, best, &self.settings)
+        self.stay_or_revert(best)
     }
 
     fn best_of(&self, candidates: u16) -> u8 {

@@ -1,8 +1,8 @@
 //! The reference controller of the eight-input timing unit, written plainly
 //! from document 01 and from the requests of document 02. It is compared with
 //! the real controller; it shares no code with it. Sentences in quotation marks
-//! are document 01's, in `buckets`, `building`, `calls`, `pages` and `tables`
-//! document 02's.
+//! are document 01's, in `buckets`, `building`, `calls`, `pages`, `tables` and
+//! `week` document 02's.
 
 #![forbid(unsafe_code)]
 
@@ -24,6 +24,7 @@ mod selection;
 mod sheet;
 mod tables;
 mod unit;
+mod week;
 
 pub use blocks::{Blocks, OpenBlock, BLOCKS_KEPT, SAMPLES_PER_BLOCK};
 pub use buckets::{BucketSet, Buckets, BUCKET_SETS};
@@ -43,3 +44,4 @@ pub use sheet::{
 };
 pub use tables::{table_addresses, BYTES_PER_TABLE, STANDARD_TABLE};
 pub use unit::{OldUnit, Unit, UnitUnder, SAMPLE_LIMIT};
+pub use week::{Week, Window, MOST_WINDOWS, TICKS_PER_WEEK, WINDOW_NUMBERS};

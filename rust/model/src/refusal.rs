@@ -37,6 +37,10 @@ pub enum Refusal {
     /// Document 02, #105: "wrong length, a forbidden nonzero, a value above
     /// Largest or reject − qualification under 6"
     DoesNotLoad = 15,
+    /// Document 02, #107: "place 4,725,000 or more, over eight windows, start
+    /// not before end, end past the week, not ascending with a free tick
+    /// between, or first at 0 with last ending the week"
+    NoSuchWeek = 16,
 }
 
 impl Refusal {

@@ -26,29 +26,30 @@ impl Wait {
     /// The choice while the selected one is a candidate. "If it is best, it
     /// stays and the wait is 0. If it is not best and non-revertive, it stays
     /// and the wait is 0. If revertive, the wait rises [...]; the switch comes
-    /// when wait − 1 is n or more".
+    /// when wait − 1 is n or more". Revertive is bit 3 of the selected one, not
+    /// of the best.
     ///
-    /// Revertive is bit 3 of the selected one, not of the best.
-    pub(crate) fn choose(&mut self, selected: u8, best: u8, settings: &Settings) -> u8 {
+    /// Document 02, #107: windows "block the switch of a reversion; meanwhile
+    /// the wait rises only if it is below n + 1". Busy is a tick in a window.
+    ///
+    /// Reading: below n + 1 before the tick. A wait that is 0 or counted for
+    /// another best is below it, and is 1 in a window too.
+    pub(crate) fn choose(&mut self, selected: u8, best: u8, settings: &Settings, busy: bool) -> u8 {
         if selected == best || !settings.revertive(selected) {
             *self = Wait::ZERO;
             return selected;
         }
-        self.count_for(best);
+        let n = wait_limit(settings.delay);
+        // "the wait rises by 1, or is 1 if it was 0 or counted for another best"
+        let waited = if self.best == best { self.ticks } else { 0 };
+        let rises = !busy || waited < n + 1;
+        let ticks = waited + u32::from(rises);
+        *self = Wait { ticks, best };
         // Wait − 1 is n or more when the wait is above n.
-        if self.ticks > wait_limit(settings.delay) {
+        if self.ticks > n && !busy {
             best
         } else {
             selected
-        }
-    }
-
-    /// "the wait rises by 1, or is 1 if it was 0 or counted for another best"
-    fn count_for(&mut self, best: u8) {
-        if self.ticks == 0 || self.best != best {
-            *self = Wait { ticks: 1, best };
-        } else {
-            self.ticks += 1;
         }
     }
 }
@@ -71,10 +72,11 @@ impl<'a> Candidates<'a> {
         Candidates { settings, inputs }
     }
 
-    /// The choice of a tick, with what is selected so far and its wait.
-    pub fn choose(self, selected: u8, wait: &mut Wait) -> u8 {
+    /// The choice of a tick, with what is selected so far and its wait; busy is
+    /// a tick in a window.
+    pub fn choose(self, selected: u8, wait: &mut Wait, busy: bool) -> u8 {
         if self.settings.automatic() {
-            self.automatic(selected, wait)
+            self.automatic(selected, wait, busy)
         } else {
             // "Any manual tick zeroes the wait."
             *wait = Wait::ZERO;
@@ -82,10 +84,11 @@ impl<'a> Candidates<'a> {
         }
     }
 
-    /// "If the selected one is no candidate, the best is taken, or 0."
-    fn automatic(self, selected: u8, wait: &mut Wait) -> u8 {
+    /// "If the selected one is no candidate, the best is taken, or 0." Document
+    /// 02, #107: "A switch off a lost reference is never blocked."
+    fn automatic(self, selected: u8, wait: &mut Wait, busy: bool) -> u8 {
         if self.includes(selected) {
-            wait.choose(selected, self.best(), self.settings)
+            wait.choose(selected, self.best(), self.settings, busy)
         } else {
             self.best()
         }

@@ -11,6 +11,7 @@ use crate::pll::{Pll, State, UNLOCK_TICKS};
 use crate::refusal::{number_of, Refusal};
 use crate::registers::{Register, Settings};
 use crate::selection::{state_after_selection, Candidates, Wait, NONE};
+use crate::week::Week;
 
 /// Samples run from −125,000,000 to 125,000,000.
 pub const SAMPLE_LIMIT: i32 = 125_000_000;
@@ -30,6 +31,7 @@ pub struct UnitUnder<R> {
     pub pll: Pll,
     pub selected: u8,
     pub wait: Wait,
+    pub week: Week,
     pub history: HistoryUnder<R>,
     /// Ticks in Holdover after the event that entered it.
     pub holdover_ticks: u64,
@@ -51,6 +53,7 @@ impl<R: SwitchRules> UnitUnder<R> {
             pll: Pll::fresh(),
             selected: NONE,
             wait: Wait::ZERO,
+            week: Week::fresh(),
             history: HistoryUnder::fresh(),
             holdover_ticks: 0,
             settings,
@@ -90,6 +93,8 @@ impl<R: SwitchRules> UnitUnder<R> {
             Call::AssignBucket { input, set } => {
                 self.change_buckets(self.buckets.with_assigned(input, set))
             }
+            Call::SetWeek { place } => self.week.set_place(place),
+            Call::SetWindows { count, numbers } => self.week.set_windows(count, &numbers),
         })
     }
 
@@ -105,8 +110,8 @@ impl<R: SwitchRules> UnitUnder<R> {
         }
     }
 
-    /// The five steps of a tick. Steps 1 and 2 of one input do not touch
-    /// another.
+    /// The five steps of a tick, and the place in the week after step 4. Steps 1
+    /// and 2 of one input do not touch another.
     fn tick(&mut self, mask: u8, lock: bool, sample: i32) -> Result<(), Refusal> {
         if !(-SAMPLE_LIMIT..=SAMPLE_LIMIT).contains(&sample) {
             return Err(Refusal::SampleOutOfRange);
@@ -120,6 +125,7 @@ impl<R: SwitchRules> UnitUnder<R> {
         }
         self.follow_lock(lock); // step 3
         self.select(); // step 4
+        self.week.advance(); // "after its selection step"
         self.history.end_of_tick(self.locked(), sample); // step 5
         self.count_holdover(state_before);
         Ok(())
@@ -142,7 +148,7 @@ impl<R: SwitchRules> UnitUnder<R> {
     /// Step 4.
     fn select(&mut self) {
         let candidates = Candidates::of(&self.settings, &self.inputs);
-        let choice = candidates.choose(self.selected, &mut self.wait);
+        let choice = candidates.choose(self.selected, &mut self.wait, self.week.busy());
         let changed = choice != self.selected;
         if changed {
             self.change_selection(choice);

@@ -11,7 +11,9 @@ use std::mem::size_of;
 
 pub const SIZE: usize = size_of::<Unit>();
 /// The places of the bytes that are in no field.
-pub const PADDING: [usize; 9] = [1690, 1691, 1692, 1693, 1694, 1695, 1733, 1734, 1735];
+pub const PADDING: [usize; 13] = [
+    1690, 1691, 1692, 1693, 1694, 1695, 1801, 1802, 1803, 1804, 1805, 1806, 1807,
+];
 
 extern "C" {
     fn unit_event(unit: *mut u8, kind: u8, a: u8, b: u8, word: i32) -> u8;
@@ -24,6 +26,8 @@ extern "C" {
         decay: u8,
     ) -> u8;
     fn unit_assign_bucket(unit: *mut u8, input: u8, set: u8) -> u8;
+    fn unit_set_week(unit: *mut u8, place: u32) -> u8;
+    fn unit_set_windows(unit: *mut u8, count: u8, windows: *const u32) -> u8;
     fn unit_load(unit: *mut u8, table: *const u8, length: usize) -> u8;
 }
 
@@ -65,9 +69,9 @@ impl Held {
         self.fill_padding();
         let before = self.bytes;
         let unit = self.bytes.as_mut_ptr();
-        // SAFETY: the pointers are to the bytes of a unit and of a table, lent
-        // for the call alone; the functions take every value of the other
-        // arguments.
+        // SAFETY: the pointers are to the bytes of a unit, to 16 numbers and to
+        // the bytes of a table, lent for the call alone; the functions take
+        // every value of the other arguments.
         let refusal = unsafe {
             match sent {
                 Sent::Fields(Fields { kind, a, b, word }) => unit_event(unit, kind, a, b, word),
@@ -78,6 +82,14 @@ impl Held {
                 }
                 Sent::Call(Call::AssignBucket { input, set }) => {
                     unit_assign_bucket(unit, input, set)
+                }
+                Sent::Call(Call::SetWeek { place }) => unit_set_week(unit, place),
+                Sent::Call(Call::SetWindows { count, numbers }) => {
+                    // A pointer that could be written by, to see that it is not.
+                    let mut lent = numbers;
+                    let refusal = unit_set_windows(unit, count, lent.as_mut_ptr());
+                    assert_eq!(lent, numbers, "the lent numbers are changed");
+                    refusal
                 }
                 Sent::Load(table) => {
                     let table = table.bytes();

@@ -4,7 +4,7 @@
 use controller::Set;
 use differ::device::Device;
 use differ::table::Table;
-use model::{Blocks, BucketSet, Call};
+use model::{Blocks, BucketSet, Call, Window};
 
 /// The controller with a model beside it. An event, call or table after which
 /// their fields do not agree is answered by a refusal that there is not.
@@ -29,7 +29,8 @@ impl Inspected {
         let fields_agree = self.inputs_agree()
             && self.buckets_agree()
             && self.history_agrees()
-            && self.selection_agrees();
+            && self.selection_agrees()
+            && self.week_agrees();
         if fields_agree {
             refusal
         } else {
@@ -86,6 +87,16 @@ impl Inspected {
             && unit.pll.mode == model.pll.state as u16
             && unit.pll.lock == u16::from(model.pll.lock_run)
             && unit.pll.unlock == model.pll.unlock_run
+    }
+
+    /// The windows in their order, then 0 and 0.
+    fn week_agrees(&self) -> bool {
+        let (stored, week) = (&self.controller.week, &self.model.week);
+        let none = Window::of(0, 0);
+        let windows = week.windows.iter().chain(std::iter::repeat(&none));
+        let numbers = windows.flat_map(|window| [window.start, window.end]);
+        let all = stored.windows.len();
+        stored.place == week.place && numbers.take(all).eq(stored.windows)
     }
 }
 

@@ -21,6 +21,7 @@ fn concerned(buckets: &Buckets, call: Call) -> Vec<u8> {
     match call {
         Call::SetBucket { set, .. } => buckets.inputs_with(set),
         Call::AssignBucket { input, .. } => vec![input],
+        Call::SetWeek { .. } | Call::SetWindows { .. } => Vec::new(),
     }
 }
 
@@ -92,6 +93,7 @@ pub static FAULTS: &[Fault] = &[
                 input,
                 set: set % 4,
             },
+            _ => call,
         };
         right_call(unit, call)
     }),
@@ -111,16 +113,16 @@ pub static FAULTS: &[Fault] = &[
         refusal
     }),
     in_call("alarm not set by an assignment", |unit, call| match call {
-        Call::SetBucket { .. } => right_call(unit, call),
         Call::AssignBucket { .. } => then_each(unit, call, |before, after| {
             after.activity_alarm = before.activity_alarm;
         }),
+        _ => right_call(unit, call),
     }),
     in_call("alarm not set by a setting", |unit, call| match call {
-        Call::AssignBucket { .. } => right_call(unit, call),
         Call::SetBucket { .. } => then_each(unit, call, |before, after| {
             after.activity_alarm = before.activity_alarm;
         }),
+        _ => right_call(unit, call),
     }),
     in_call("decay count kept by a call", |unit, call| {
         then_each(unit, call, |before, after| after.decay = before.decay)
