@@ -117,6 +117,24 @@ pub fn holdover() -> Unit {
     unit
 }
 
+/// Inputs 1 and 2 qualified; 2 selected and revertive, 1 waiting for reversion
+/// with this delay.
+pub fn reverting(delay: u8) -> Unit {
+    let mut unit = automatic(&[1, 2]);
+    write(&mut unit, 0x1d, 0x08);
+    write(&mut unit, 0x43, delay);
+    write(&mut unit, 0x42, 0xfe);
+    clean_ticks(&mut unit, 1);
+    assert_eq!(unit.selected, 2);
+    write(&mut unit, 0x42, 0xff);
+    unit
+}
+
+/// Ticks with the lock flag set, so that no lock alarm comes in between.
+pub fn wait_ticks(unit: &mut Unit, count: u32) {
+    lock_ticks(unit, count, 0);
+}
+
 pub fn write_event(address: u8, value: u8) -> Event {
     Event::Write { address, value }
 }

@@ -2,6 +2,7 @@
 //! assigning do.
 
 use crate::bench::*;
+use crate::calls::{accept_call, refuse_call};
 use model::{BucketSet, Call, Unit};
 
 fn set_call(set: u8, numbers: BucketSet) -> Call {
@@ -12,24 +13,12 @@ fn assign_call(input: u8, set: u8) -> Call {
     Call::AssignBucket { input, set }
 }
 
-/// Takes a call that must be accepted.
-fn accept_call(unit: &mut Unit, call: Call) {
-    assert_eq!(unit.call(&call), 0, "{:?} is refused", call);
-}
-
 fn set(unit: &mut Unit, set: u8, numbers: BucketSet) {
     accept_call(unit, set_call(set, numbers));
 }
 
 fn assign(unit: &mut Unit, input: u8, set: u8) {
     accept_call(unit, assign_call(input, set));
-}
-
-/// Takes a call that must be refused with this number, the state unchanged.
-fn refuse_call(unit: &mut Unit, call: Call, number: u8) {
-    let before = unit.clone();
-    assert_eq!(unit.call(&call), number, "{:?}", call);
-    assert_eq!(*unit, before, "{:?} changes the state", call);
 }
 
 /// A unit whose input 1 has set 1 with these numbers, and is at level 0.

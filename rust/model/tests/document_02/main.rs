@@ -6,8 +6,11 @@
 #[path = "../document_01/bench.rs"]
 mod bench;
 mod bucket_sets;
+mod busy_hours;
+mod calls;
 mod finer_readings;
 mod fresh_values;
 mod kept_value;
 mod old_rules;
 mod rack_printout;
+mod week_calls;
