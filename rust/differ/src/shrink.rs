@@ -54,28 +54,45 @@ impl<D: Device> Shrink<'_, D> {
         );
     }
 
-    /// Tries the plainer forms of each event, call and table.
+    /// Tries the plainer forms of each event, call and table, until none is
+    /// left that can take its place: what one form needs, another may give.
     fn make_plainer(&mut self) {
-        for form in 0..PLAINER_FORMS {
-            let mut index = 0;
-            while index < self.events.len() {
-                if let Some(&plainer) = self.events[index].plainer().get(form) {
-                    self.replace(index, plainer);
-                }
-                index += 1;
+        let mut changed = true;
+        while changed {
+            changed = false;
+            for form in 0..PLAINER_FORMS {
+                changed |= self.try_form(form);
             }
         }
     }
 
-    /// Puts another in the place of one, if the difference stays.
-    fn replace(&mut self, index: usize, other: Sent) {
+    /// Tries one of the plainer forms of each: whether one has taken its place.
+    fn try_form(&mut self, form: usize) -> bool {
+        let (mut changed, mut index) = (false, 0);
+        while index < self.events.len() {
+            if let Some(&plainer) = self.events[index].plainer().get(form) {
+                changed |= self.replace(index, plainer);
+            }
+            index += 1;
+        }
+        changed
+    }
+
+    /// Puts another in the place of one, if the difference stays: whether it
+    /// has.
+    fn replace(&mut self, index: usize, other: Sent) -> bool {
         let mut events = self.events.clone();
         events[index] = other;
-        if events != self.events && self.budget.spend(events.len()) {
-            if let Some(found) = cut_to_difference(self.make, &mut events) {
+        if events == self.events || !self.budget.spend(events.len()) {
+            return false;
+        }
+        match cut_to_difference(self.make, &mut events) {
+            Some(found) => {
                 self.events = events;
                 self.mismatch = found;
+                true
             }
+            None => false,
         }
     }
 
