@@ -2,6 +2,7 @@
 //! counts an event for it.
 
 mod buckets;
+mod busy_hours;
 mod histories;
 mod readings;
 mod tables;
@@ -127,12 +128,14 @@ impl Item {
 
 /// The items in parts: those of #104 need not be asked where no bucket set
 /// plays a part, nor those of #105 where no table does, nor those of #106 where
-/// nothing is measured. That saves a third of the time.
+/// nothing is measured, nor those of #107 where there are no windows. That saves
+/// a third of the time.
 pub struct Coverage {
     items: Vec<Item>,
     of_buckets: Vec<Item>,
     of_tables: Vec<Item>,
     of_readings: Vec<Item>,
+    of_weeks: Vec<Item>,
     pub lists: u64,
     pub events: u64,
     reads: [u64; 256],
@@ -146,13 +149,14 @@ impl Coverage {
             of_buckets: items(buckets::conditions()),
             of_tables: items(tables::conditions()),
             of_readings: items(readings::conditions()),
+            of_weeks: items(busy_hours::conditions()),
             lists: 0,
             events: 0,
             reads: [0; 256],
         }
     }
 
-    /// A table is no event: only the items of #105 are asked of it.
+    /// A table is no event: only the items of #105 and #107 are asked of it.
     pub fn note(&mut self, moment: &Moment) {
         let events = moment.table.is_none();
         for (asked, items) in [
@@ -160,6 +164,7 @@ impl Coverage {
             (events && moment.concerns_buckets(), &mut self.of_buckets),
             (moment.concerns_tables(), &mut self.of_tables),
             (moment.concerns_readings(), &mut self.of_readings),
+            (moment.concerns_weeks(), &mut self.of_weeks),
         ] {
             if asked {
                 let reached = items.iter_mut().filter(|item| (item.condition)(moment));
@@ -185,6 +190,7 @@ impl Coverage {
     pub fn counts(&self) -> Vec<(&str, u64)> {
         let items = self.items.iter().chain(&self.of_buckets);
         let items = items.chain(&self.of_tables).chain(&self.of_readings);
+        let items = items.chain(&self.of_weeks);
         let mut counts: Vec<_> = items.map(|item| (item.name.as_str(), item.count)).collect();
         let least = self.reads.iter().copied().min().unwrap_or(0);
         counts.push(("reads of the least read of all 256 addresses", least));
@@ -197,8 +203,8 @@ impl Coverage {
     }
 }
 
-/// The items but those of the bucket sets, tables and measurements, each with
-/// its condition.
+/// The items but those of the bucket sets, tables, measurements and windows,
+/// each with its condition.
 fn conditions() -> Vec<(String, Condition)> {
     let writable = (0x1c..=0x26).chain(0x40..=0x45);
     let mut list = Vec::new();
@@ -213,7 +219,7 @@ fn conditions() -> Vec<(String, Condition)> {
         |m, selected| m.after.selected == selected,
     ));
     list.extend(family(
-        (1..=8).chain([12, 14]),
+        (1..=8).chain([12, 14, 16]),
         |refusal| format!("events refused with {}", refusal),
         |m, refusal| m.refusal == refusal,
     ));

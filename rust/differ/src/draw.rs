@@ -1,16 +1,18 @@
 //! Single events, or fields that are none, calls and tables, drawn at random.
 
 mod buckets;
+mod busy_hours;
 mod readings;
 mod tables;
 
-pub use buckets::{any_call, bucket_numbers, bucket_set, refused_call};
+pub use buckets::{any_bucket_call, bucket_numbers, bucket_set, refused_bucket_call};
+pub use busy_hours::{any_week_call, place, refused_week_call, windows_call};
 pub use readings::{any_reading, bad_reading, edge_reading, good_reading, no_reading};
 pub use tables::{refused_table, table, waking_table};
 
 use crate::fields::Fields;
 use crate::sent::Sent;
-use model::{Event, SAMPLE_LIMIT};
+use model::{Call, Event, SAMPLE_LIMIT};
 use shared::random::Random;
 
 /// Fields that are no event.
@@ -44,6 +46,12 @@ pub fn stray(random: &mut Random) -> Sent {
         2 => refused_table(random).into(),
         _ => stray_event(random).into(),
     }
+}
+
+/// A call to be refused.
+fn refused_call(random: &mut Random) -> Call {
+    let calls = [refused_bucket_call(random), refused_week_call(random)];
+    random.pick(&calls)
 }
 
 fn stray_event(random: &mut Random) -> Fields {

@@ -197,6 +197,10 @@ impl<'a, D: Device> List<'a, D> {
         self.send(Call::AssignBucket { input, set })
     }
 
+    pub fn set_week(&mut self, place: u32) -> Step {
+        self.send(Call::SetWeek { place })
+    }
+
     pub fn load(&mut self, table: Table) -> Step {
         self.send(table)
     }

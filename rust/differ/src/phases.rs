@@ -1,17 +1,23 @@
 //! The phases of which the lists are made: each does one kind of thing to the
-//! unit, with random details. Those with calls are in `buckets`, those that
-//! load tables in `tables`.
+//! unit, with random details. Reversions are in `reversions`, the phases with
+//! calls in `buckets` and `busy_hours`, those that load tables in `tables`.
 
 mod buckets;
+mod busy_hours;
+mod reversions;
 mod tables;
 
-pub use buckets::{any_calls, bucket_levels, call_while_soaking, other_bucket_sets};
+pub use buckets::{any_bucket_calls, bucket_levels, call_while_soaking, other_bucket_sets};
+pub use busy_hours::{
+    any_week_calls, busy_free_run, busy_reversion, busy_reversion_with_delay, wait_in_a_window,
+};
+pub use reversions::{reversion, reversion_with_delay};
 pub use tables::{live_without_a_write, load_a_table, refused_tables};
 
 use crate::device::Device;
 use crate::draw;
 use crate::list::{List, Step};
-use model::{wait_limit, Event};
+use model::Event;
 use shared::random::Random;
 
 fn bit(input: u8) -> u8 {
@@ -419,65 +425,4 @@ pub fn hit<D: Device>(list: &mut List<D>) -> Step {
     list.event(Event::Hit)?;
     let count = list.random.pick(&[0, 1, 5, 79, 80]);
     list.ticks(count, true)
-}
-
-pub fn reversion<D: Device>(list: &mut List<D>) -> Step {
-    let delay = list.random.pick(&[0, 1, 1, 2]);
-    reversion_with_delay(list, delay)
-}
-
-/// A reversion: the selected one is alone, then better ones come back; while
-/// the wait runs the best may change, or something interrupts the wait.
-pub fn reversion_with_delay<D: Device>(list: &mut List<D>, delay: u8) -> Step {
-    let inputs = [0; 3].map(|_: u8| any_input(&mut list.random));
-    list.write(0x40, 1)?;
-    list.write(0x24, 0)?;
-    for input in inputs {
-        make_good(list, input)?;
-    }
-    list.ticks(80, true)?;
-    let selected = inputs[0];
-    list.write(0x42, bit(selected))?;
-    list.ticks(1, true)?;
-    list.write(0x43, delay)?;
-    let byte = list.random.pick(&[0x08, 0x09, 0x0f, 0x0f, 0x07]);
-    list.write(0x1b + selected, byte)?;
-    for better in [inputs[1], inputs[2]] {
-        let mask = list.unit().settings.mask;
-        let priority = list.random.below(4) as u8;
-        list.write(0x1b + better, priority)?;
-        list.write(0x42, mask | bit(better))?;
-        let part = list.random.below(wait_limit(delay).min(1_000) + 1);
-        list.ticks(part, true)?;
-    }
-    interrupt_wait(list)?;
-    let rest = wait_limit(delay) + list.random.below(3);
-    list.ticks(rest, true)
-}
-
-/// Something that may or may not restart a running wait.
-fn interrupt_wait<D: Device>(list: &mut List<D>) -> Step {
-    let selected = selected_or_any(list);
-    let settings = list.unit().settings;
-    let own_byte = settings.inputs[usize::from(selected) - 1];
-    let ticks = list.random.below(2);
-    let delay = list.random.below(3) as u8;
-    // Registers with another value for a tick or none, then as they were.
-    let for_a_while = match list.random.below(7) {
-        0 => vec![(0x41, selected, settings.op_mode), (0x40, 0, 1)],
-        1 => vec![(0x1b + selected, own_byte ^ 0x08, own_byte)],
-        2 => vec![(0x1b + selected, 0, own_byte)],
-        3 => vec![(0x42, bit(selected), settings.mask)],
-        4 => vec![(0x42, settings.mask & !bit(selected), settings.mask)],
-        5 => vec![(0x24, 0x10, 0)],
-        _ => vec![(0x43, delay, settings.delay)],
-    };
-    for &(address, value, _) in &for_a_while {
-        list.write(address, value)?;
-    }
-    list.ticks(ticks, true)?;
-    for &(address, _, value) in &for_a_while {
-        list.write(address, value)?;
-    }
-    Ok(())
 }

@@ -26,12 +26,16 @@ fn table_phases<'a, D: Device>() -> [(u32, Phase<'a, D>); 3] {
 }
 
 /// Those with calls.
-fn call_phases<'a, D: Device>() -> [(u32, Phase<'a, D>); 4] {
+fn call_phases<'a, D: Device>() -> [(u32, Phase<'a, D>); 8] {
     [
-        (3, any_calls),
+        (3, any_bucket_calls),
         (4, other_bucket_sets),
         (5, bucket_levels),
         (3, call_while_soaking),
+        (3, any_week_calls),
+        (9, busy_reversion),
+        (4, busy_free_run),
+        (5, wait_in_a_window),
     ]
 }
 
@@ -115,8 +119,12 @@ pub fn mixed_list<D: Device>(list: &mut List<D>) -> Step {
             ticks_in_holdover(list, around_an_hour)?;
         }
         Start::LongWait => {
-            let delay = list.random.between(3, 255) as u8;
-            reversion_with_delay(list, delay)?;
+            let any = list.random.between(3, 255) as u8;
+            let delay = list.random.pick(&[any, 255]);
+            match list.random.one_in(2) {
+                true => reversion_with_delay(list, delay)?,
+                false => busy_reversion_with_delay(list, delay)?,
+            }
         }
     }
     mix_phases(list, length)?;

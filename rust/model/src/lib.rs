@@ -44,4 +44,4 @@ pub use sheet::{
 };
 pub use tables::{table_addresses, BYTES_PER_TABLE, STANDARD_TABLE};
 pub use unit::{OldUnit, Unit, UnitUnder, SAMPLE_LIMIT};
-pub use week::{Week, Window, MOST_WINDOWS, TICKS_PER_WEEK, WINDOW_NUMBERS};
+pub use week::{windows_can_be, Week, Window, MOST_WINDOWS, TICKS_PER_WEEK, WINDOW_NUMBERS};

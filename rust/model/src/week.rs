@@ -91,12 +91,13 @@ impl Week {
     }
 }
 
-/// Not "start not before end, end past the week, not ascending with a free tick
-/// between, or first at 0 with last ending the week".
+/// Whether these are not windows with "start not before end, end past the week,
+/// not ascending with a free tick between, or first at 0 with last ending the
+/// week".
 ///
 /// Reading: windows of which one ends where the next starts have no free tick
 /// between. No windows can be.
-fn windows_can_be(windows: &[Window]) -> bool {
+pub fn windows_can_be(windows: &[Window]) -> bool {
     let mut neighbours = windows.iter().zip(windows.iter().skip(1));
     let first_at_0 = windows.first().map_or(false, |first| first.start == 0);
     let last_ends = windows

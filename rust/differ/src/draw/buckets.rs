@@ -55,7 +55,7 @@ pub fn bucket_set(random: &mut Random) -> u8 {
 }
 
 /// A call to be refused: a bound overstepped, or two of them.
-pub fn refused_call(random: &mut Random) -> Call {
+pub fn refused_bucket_call(random: &mut Random) -> Call {
     let byte = random.byte();
     let set = bucket_set(random);
     let no_set = random.pick(&[4, 4 | byte, 255]);
@@ -83,7 +83,7 @@ fn assign_bucket(input: u8, set: u8) -> Call {
 }
 
 /// A call with random bytes in all places, most often small ones.
-pub fn any_call(random: &mut Random) -> Call {
+pub fn any_bucket_call(random: &mut Random) -> Call {
     let mut byte = || {
         let byte = random.byte();
         random.pick(&[byte % 4, byte % 10, byte])

@@ -8,10 +8,13 @@ use crate::list::{List, Step};
 use model::{BucketSet, Call};
 
 /// Calls of every kind, many of them refused, with a few ticks between.
-pub fn any_calls<D: Device>(list: &mut List<D>) -> Step {
+pub fn any_bucket_calls<D: Device>(list: &mut List<D>) -> Step {
     for _ in 0..list.random.between(1, 8) {
         let random = &mut list.random;
-        let calls = [draw::any_call(random), draw::refused_call(random)];
+        let calls = [
+            draw::any_bucket_call(random),
+            draw::refused_bucket_call(random),
+        ];
         let call = random.pick(&calls);
         list.send(call)?;
         let (irregular, count) = (list.random.byte(), list.random.below(4));

@@ -1,11 +1,11 @@
 //! The phases of #105: units made anew from a table, and tables that do not
 //! load.
 
-use super::{activity_bursts, any_input, measure_well, ticks_until_locked};
+use super::{activity_bursts, any_input, fill_up_to, measure_well, ticks_until_locked};
 use crate::device::Device;
 use crate::draw;
 use crate::list::{List, Step};
-use model::wait_limit;
+use model::{wait_limit, Call, Window, BLOCKS_FOR_READY};
 
 /// Whether the unit is not made anew now: it takes long until one is Ready.
 fn spared<D: Device>(list: &mut List<D>) -> bool {
@@ -35,11 +35,16 @@ pub fn refused_tables<D: Device>(list: &mut List<D>) -> Step {
 }
 
 /// A unit that lives without a write: references are measured, one is locked
-/// to, and perhaps lost; another may come, and be waited for.
+/// to, and perhaps lost; another may come, and be waited for. The windows of the
+/// unit before it play no part, nor do the blocks that it had built.
 pub fn live_without_a_write<D: Device>(list: &mut List<D>) -> Step {
     if spared(list) {
         return refused_tables(list);
     }
+    if list.random.one_in(2) {
+        list.send(Call::windows(&[Window::of(0, 100_000)]))?;
+    }
+    let built = list.unit().history.built();
     let table = draw::waking_table(&mut list.random);
     list.load(table)?;
     let manual = table.value(0x41);
@@ -60,5 +65,8 @@ pub fn live_without_a_write<D: Device>(list: &mut List<D>) -> Step {
         let count = 79 + wait_limit(list.unit().settings.delay) + list.random.below(3);
         list.ticks(count, true)?;
     }
-    Ok(())
+    match built > 0 {
+        true => fill_up_to(list, BLOCKS_FOR_READY - built),
+        false => Ok(()),
+    }
 }
