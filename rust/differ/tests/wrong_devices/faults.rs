@@ -1,7 +1,8 @@
 //! The faults: each alters the answer to an event, a call, a table or a read,
 //! or the state that is left. Those of the history are in `histories`, those of
 //! the bucket sets in `buckets`, those of the tables in `tables`, those of the
-//! measurements in `readings`.
+//! measurements in `readings`, those of the windows in `busy_hours` and
+//! `week_calls`.
 
 use differ::fields::Fields;
 use model::{wait_limit, Call, Event, State, Unit, Wait};

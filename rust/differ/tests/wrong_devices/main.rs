@@ -2,10 +2,12 @@
 //! are the model with one rule altered from outside.
 
 mod buckets;
+mod busy_hours;
 mod faults;
 mod histories;
 mod readings;
 mod tables;
+mod week_calls;
 
 use differ::coverage::Coverage;
 use differ::device::Device;
@@ -73,6 +75,8 @@ fn all_faults() -> impl Iterator<Item = &'static Fault> {
         .chain(buckets::FAULTS)
         .chain(tables::FAULTS)
         .chain(readings::FAULTS)
+        .chain(busy_hours::FAULTS)
+        .chain(week_calls::FAULTS)
 }
 
 fn fault(name: &str) -> &'static Fault {
@@ -144,6 +148,24 @@ fn a_difference_is_repeated_and_shortened() {
     // The measurement -128 after or instead of a clearing one, and the ticks
     // of a soak.
     assert!(shrink.events.len() <= 81, "{:#?}", shrink.lines());
+}
+
+/// Of windows no more are left than what the fault is about.
+#[test]
+fn a_call_for_windows_is_made_plainer() {
+    for (name, windows) in [
+        ("a window of the whole week let through", 1),
+        ("windows that touch let through", 2),
+        ("nine windows let through", 9),
+    ] {
+        let wrong = Wrong::with(fault(name));
+        let difference = difference(wrong.fault, 100, 0).expect(name);
+        let shrink = Shrink::of(&wrong, difference.name).expect(name);
+        match shrink.events[..] {
+            [Sent::Call(Call::SetWindows { count, .. })] => assert_eq!(count, windows),
+            _ => panic!("{:#?}", shrink.lines()),
+        }
+    }
 }
 
 /// Of a table no more is left than what the fault is about.
