@@ -58,10 +58,8 @@ impl Week {
     /// "each tick advances it after its selection step, returning to 0 at the
     /// end"
     pub(crate) fn advance(&mut self) {
-        self.place += 1;
-        if self.place >= TICKS_PER_WEEK {
-            self.place = 0;
-        }
+        let last = TICKS_PER_WEEK - 1;
+        self.place = if self.place < last { self.place + 1 } else { 0 };
     }
 
     /// "16: place 4,725,000 or more"
