@@ -1,4 +1,5 @@
-/* Document 01's cases A to J ("Marked trials") and cases of document 02's #102, #104, #105 and #106, driven by a host in C through the functions of libhost.a. */
+/* Document 01's cases A to J ("Marked trials") and cases of document 02's #102, #104, #105, #106 and #107, driven by a host in C through the functions of
+ * libhost.a. */
 #include "controller.h"
 
 #include <stdio.h>
@@ -173,14 +174,22 @@ static void mean_of_43_blocks(void)
     expect("H sums -1 and 42 times 0: value -1", value(&u), -1);
 }
 
-/* How many ticks after the one that makes input 1 available the unit reverts to it from input 2; both have priority 0. */
-static long reversion(uint8_t delay, long at_most)
+/* A unit that has selected input 2, which is revertive; the next tick makes input 1 available, and is the first of the wait. Both have priority 0. */
+static struct unit reverting(uint8_t delay)
 {
     struct unit u = tracking(2);
     write_register(&u, 0x1d, 8);
     write_register(&u, 0x43, delay);
     measure(&u, 1, 0);
-    clean_ticks(&u, SOAK_TICKS);
+    clean_ticks(&u, SOAK_TICKS - 1);
+    return u;
+}
+
+/* How many ticks after the one that makes input 1 available the unit reverts to it from input 2. */
+static long reversion(uint8_t delay, long at_most)
+{
+    struct unit u = reverting(delay);
+    clean_ticks(&u, 1);
     long n = 0;
     while (selected(&u) != 1 && n < at_most) {
         ticks(&u, 1, 0, 1, 0);
@@ -394,6 +403,97 @@ static void drift(void)
     expect("#106 the 79th: selected", selected(&u), 1);
 }
 
+enum { WEEK = 4725000 };
+
+/* Sets so many windows, of which the first two have these starts and ends. */
+static int set_windows(struct unit *u, uint8_t count, uint32_t start, uint32_t end, uint32_t next_start, uint32_t next_end)
+{
+    const uint32_t windows[16] = {start, end, next_start, next_end};
+    return unit_set_windows(u, count, windows);
+}
+
+static void refused_weeks(void)
+{
+    static const struct { const char *what; uint8_t count; uint32_t windows[16]; } wrong[] = {
+        {"#107 nine windows give 16", 9, {1, 2, 3, 4, 5, 6, 7, 8, 9, 10, 11, 12, 13, 14, 15, 16}},
+        {"#107 a start at its end gives 16", 1, {5, 5}},
+        {"#107 a start after its end gives 16", 1, {6, 5}},
+        {"#107 an end past the week gives 16", 1, {5, WEEK + 1}},
+        {"#107 windows that touch give 16", 2, {5, 9, 9, 12}},
+        {"#107 windows that do not ascend give 16", 2, {5, 9, 2, 4}},
+        {"#107 the first at 0 with the last ending the week gives 16", 2, {0, 1, 9, WEEK}},
+        {"#107 a window of the whole week gives 16", 1, {0, WEEK}},
+    };
+    struct unit u = reverting(0);
+    set_windows(&u, 1, 1, 1000, 0, 0);
+    clean_ticks(&u, 1);
+    unsigned char before[sizeof u];
+    memcpy(before, &u, sizeof u);
+    expect_refused("#107 place 4,725,000 gives 16", &u, before, unit_set_week(&u, WEEK), 16);
+    for (size_t i = 0; i < sizeof wrong / sizeof *wrong; i++) {
+        uint32_t lent[16];
+        memcpy(lent, wrong[i].windows, sizeof lent);
+        expect_refused(wrong[i].what, &u, before, unit_set_windows(&u, wrong[i].count, lent), 16);
+        expect("  and the numbers too", memcmp(lent, wrong[i].windows, sizeof lent), 0);
+    }
+}
+
+/* Input 1 is waited for from place 1,000 on, in two windows with one free tick between. */
+static void busy_hours(void)
+{
+    struct unit u = reverting(0);
+    expect("#107 each tick advances the place", (long)u.week.place, 2 * SOAK_TICKS - 1);
+    expect("#107 two windows with a free tick between are accepted", set_windows(&u, 2, 1000, 1010, 1011, 1020), 0);
+    expect("#107 and leave the place as it is", (long)u.week.place, 2 * SOAK_TICKS - 1);
+    expect("#107 place 1,000 is accepted", unit_set_week(&u, 1000), 0);
+    clean_ticks(&u, 10);
+    expect("#107 ten ticks in the window: not selected", selected(&u), 2);
+    expect("#107 the wait is n + 1 = 1", (long)u.choice.wait, 1);
+    struct unit free_tick = u, other = u, lost = u, made_anew = u;
+    clean_ticks(&free_tick, 1);
+    expect("#107 its end is free: selected", selected(&free_tick), 1);
+    unit_set_week(&other, 1011);
+    clean_ticks(&other, 9);
+    expect("#107 in the second window: not selected", selected(&other), 2);
+    clean_ticks(&other, 1);
+    expect("#107 after it: selected", selected(&other), 1);
+    unit_set_week(&lost, 1000);
+    write_register(&lost, 0x42, 0xfd);
+    clean_ticks(&lost, 1);
+    expect("#107 a lost reference is left in a window", selected(&lost), 1);
+    expect("#107 a table loads in a window", unit_load(&made_anew, buyers_own, TABLE_BYTES), 0);
+    static const struct unit_week none;
+    expect("#107 and leaves place 0 and no windows", memcmp(&made_anew.week, &none, sizeof none), 0);
+}
+
+/* A window that ends the week, and the place that follows. */
+static void end_of_the_week(void)
+{
+    struct unit u = reverting(0);
+    expect("#107 a window that ends the week is accepted", set_windows(&u, 1, WEEK - 2, WEEK, 0, 0), 0);
+    expect("#107 place 4,724,998 is accepted", unit_set_week(&u, WEEK - 2), 0);
+    clean_ticks(&u, 2);
+    expect("#107 two ticks: place 0, not selected", 10 * (long)u.week.place + selected(&u), 2);
+    unit_event(&u, TICK, 0, 0, 125000001);
+    expect("#107 a refused tick leaves the place", (long)u.week.place, 0);
+    clean_ticks(&u, 1);
+    expect("#107 the next: place 1, selected", 10 * (long)u.week.place + selected(&u), 11);
+}
+
+/* The longest wait, in a window, and windows taken away. */
+static void longest_wait(void)
+{
+    struct unit u = reverting(255);
+    unit_set_week(&u, 0);
+    set_windows(&u, 1, 0, WEEK - 1, 0, 0);
+    ticks(&u, 200000, 0, 1, 0);
+    expect("#107 delay 255, in a window: the wait stops at 119,533", (long)u.choice.wait, 119533);
+    expect("#107 not selected", selected(&u), 2);
+    expect("#107 no windows are accepted", set_windows(&u, 0, 7, 7, 7, 7), 0);
+    ticks(&u, 1, 0, 1, 0);
+    expect("#107 the next tick: selected", selected(&u), 1);
+}
+
 int main(void)
 {
     activity();
@@ -413,6 +513,10 @@ int main(void)
     expect("#106 each byte of the old kind is as 32 times it", unlike_old(), 0);
     refused_readings();
     drift();
-    printf("cases A to J, #102, #104, #105 and #106: %s\n", failures ? "FAILED" : "passed");
+    refused_weeks();
+    busy_hours();
+    end_of_the_week();
+    longest_wait();
+    printf("cases A to J, #102, #104, #105, #106 and #107: %s\n", failures ? "FAILED" : "passed");
     return failures != 0;
 }
