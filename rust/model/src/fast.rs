@@ -426,7 +426,8 @@ impl Unit {
         if candidates & selected_bit == 0 {
             return best;
         }
-        self.stay_or_revert(best)
+        self.wait
+            .stay_or_revert(self.selected, best, &self.settings, &self.week)
     }
 
     fn best_of(&self, candidates: u16) -> u8 {

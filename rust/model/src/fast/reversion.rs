@@ -1,30 +1,35 @@
 //! The reversion for speed: the windows are looked at only where a switch would
 //! come.
 
-use super::Unit;
+use crate::registers::Settings;
 use crate::selection::{wait_limit, Wait};
+use crate::week::Week;
 
-impl Unit {
+impl Wait {
     /// The choice while the selected one is a candidate.
     #[inline]
-    pub(super) fn stay_or_revert(&mut self, best: u8) -> u8 {
-        let selected = self.selected;
-        if selected == best || !self.settings.revertive(selected) {
-            self.wait = Wait::ZERO;
+    pub(super) fn stay_or_revert(
+        &mut self,
+        selected: u8,
+        best: u8,
+        settings: &Settings,
+        week: &Week,
+    ) -> u8 {
+        if selected == best || !settings.revertive(selected) {
+            *self = Wait::ZERO;
             return selected;
         }
-        let same_best = self.wait.best == best;
-        let waited = if same_best { self.wait.ticks } else { 0 };
-        let n = wait_limit(self.settings.delay);
-        self.wait.best = best;
+        let n = wait_limit(settings.delay);
+        let waited = if self.best == best { self.ticks } else { 0 };
+        let ticks = waited + 1;
+        *self = Wait { ticks, best };
         if waited < n {
-            self.wait.ticks = waited + 1;
-            selected
-        } else if self.week.busy() {
-            self.wait.ticks = waited.max(n + 1);
-            selected
-        } else {
-            best
+            return selected;
         }
+        if week.busy() {
+            self.ticks = waited.max(n + 1);
+            return selected;
+        }
+        best
     }
 }
