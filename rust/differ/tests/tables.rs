@@ -19,7 +19,7 @@ use differ::draw;
 use differ::list::List;
 use differ::scenarios::mix_events;
 use differ::table::{Table, FORBIDDEN, LARGEST};
-use model::{table_addresses, wait_limit, BucketSet, Call, Unit, LOCK_TICKS, SOAK_TICKS};
+use model::{table_addresses, wait_limit, BucketSet, Call, Unit, Window, LOCK_TICKS, SOAK_TICKS};
 use shared::random::Random;
 
 const SEED: u64 = 6;
@@ -32,7 +32,8 @@ const EVENTS: u64 = 10_000;
 const STANDARD: Table = Table::STANDARD;
 
 /// A unit with a past: Ready, a reference selected and another waited for,
-/// other bucket sets, and registers that are not fresh.
+/// other bucket sets, a place in the week and windows, and registers that are
+/// not fresh.
 fn busy<D: Device>(make: &D) -> Bench<D> {
     let mut bench = Bench::fresh(make);
     for (address, value) in [(0x40, 1), (0x1d, 0x09), (0x43, 200), (0x44, 90)] {
@@ -45,6 +46,11 @@ fn busy<D: Device>(make: &D) -> Bench<D> {
     let numbers = BucketSet::of(20, 10, 5, 3);
     bench.accept(Call::SetBucket { set: 3, numbers });
     bench.accept(Call::AssignBucket { input: 8, set: 3 });
+    bench.accept(Call::SetWeek { place: 4_000_000 });
+    bench.accept(Call::windows(&[
+        Window::of(0, 9_000),
+        Window::of(3_999_999, 4_100_000),
+    ]));
     bench.clean_ticks(100);
     assert!(bench.unit().wait.ticks > 0);
     bench

@@ -2,7 +2,9 @@
 //! load.
 
 use crate::bench::*;
-use model::{table_addresses, BucketSet, Call, State, Unit, LOCK_ALARM_TICKS, STANDARD_TABLE};
+use model::{
+    table_addresses, BucketSet, Call, State, Unit, Window, LOCK_ALARM_TICKS, STANDARD_TABLE,
+};
 
 /// The standard table with other values at these addresses.
 fn table(values: &[(u8, u8)]) -> Vec<u8> {
@@ -33,7 +35,8 @@ fn refuse_tables(tables: impl IntoIterator<Item = Vec<u8>>) {
 }
 
 /// A unit with a past: Locked and Ready, a better reference waited for, samples
-/// in the open block, a backup, other registers and bucket sets.
+/// in the open block, a backup, other registers and bucket sets, a place in the
+/// week and windows.
 fn busy() -> Unit {
     let mut unit = automatic(&[1, 2]);
     lock_ticks(&mut unit, 15 + 44 * 128, -7);
@@ -45,6 +48,8 @@ fn busy() -> Unit {
     for call in [
         Call::SetBucket { set: 3, numbers },
         Call::AssignBucket { input: 8, set: 3 },
+        Call::SetWeek { place: 1_000 },
+        Call::windows(&[Window::of(0, 5), Window::of(5_000, 9_000)]),
     ] {
         assert_eq!(unit.call(&call), 0);
     }
