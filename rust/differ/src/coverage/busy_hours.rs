@@ -116,8 +116,7 @@ impl Moment<'_> {
         self.accepted_write(0x43) && self.before.week.busy() && self.before.wait.ticks > 0
     }
 
-    /// A table that loads and finds windows or another place than 0.
-    fn loaded_on_week(&self) -> bool {
+    fn table_loaded(&self) -> bool {
         self.refusal == 0 && self.table.is_some()
     }
 }
@@ -262,13 +261,13 @@ const CALLS: &[(&str, SingleCondition)] = &[
         m.refused_with_16() && !m.before.week.windows.is_empty()
     }),
     ("table that loads, windows set", |m| {
-        m.loaded_on_week() && !m.before.week.windows.is_empty()
+        m.table_loaded() && !m.before.week.windows.is_empty()
     }),
     ("table that loads, the place not 0", |m| {
-        m.loaded_on_week() && m.before.week.place != 0
+        m.table_loaded() && m.before.week.place != 0
     }),
     ("table that loads in a window during a wait", |m| {
-        m.loaded_on_week() && m.before.week.busy() && m.before.wait.ticks > 0
+        m.table_loaded() && m.before.week.busy() && m.before.wait.ticks > 0
     }),
 ];
 

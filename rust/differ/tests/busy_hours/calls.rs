@@ -137,6 +137,33 @@ fn numbers_around_each_bound_in_each_place() {
     ask_all!(check_numbers);
 }
 
+/// An accepted call writes the week alone, whatever the unit's bytes are: the
+/// place, or the windows with 0 and 0 after them.
+#[test]
+#[cfg(feature = "controller")]
+fn an_accepted_call_writes_the_week_alone() {
+    let mut random = Random::new(SEED);
+    let mut held = crate::held::Held::fresh_unit();
+    for _ in 0..CALLS / 10 {
+        held.bytes.iter_mut().for_each(|byte| *byte = random.byte());
+        let mut expected = *held.unit();
+        let place = draw::place(&mut random);
+        let call = match random.one_in(2) {
+            true => Call::SetWeek { place },
+            false => draw::windows_call(&mut random, place),
+        };
+        if let Call::SetWindows { count, numbers } = call {
+            let written = 2 * usize::from(count);
+            expected.week.windows = [0; 16];
+            expected.week.windows[..written].copy_from_slice(&numbers[..written]);
+        } else {
+            expected.week.place = place;
+        }
+        assert_eq!(held.send(call.into()).0, 0, "{:?}", call);
+        assert!(*held.unit() == expected, "{:?}", call);
+    }
+}
+
 /// Calls of any numbers, such as are accepted, and such as are refused.
 fn check_random_calls<D: Device>(make: &D) {
     let mut random = Random::new(SEED);
