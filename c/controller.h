@@ -209,7 +209,7 @@ uint8_t unit_set_week(struct unit *u, uint32_t place);
  * selected candidate that is lost is left at once, there as elsewhere.
  *   count:   0 to 8; 0 for no windows
  *   windows: start and end of each of the first count, in ticks from the week's start: a window has the places from its start up to but not including its
- *            end. All 16 numbers are the caller's, those after the first count are not looked at.
+ *            end. There must be 16 numbers, all of them written; those after the first count have no effect.
  * A count over 8, a start not before its end, an end over 4,725,000, a start that is not after the end of the window before it, so that no free tick is
  * between, or a first start of 0 with a last end of 4,725,000 give 16. A refusal leaves every byte of the unit as it was, padding included. Unit and windows
  * do not overlap. */

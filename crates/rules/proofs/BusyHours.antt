@@ -9,7 +9,7 @@ use borrow.Author.Tests.{leb-true, leb-false, le-leb, lt-leb, eqb-false, eq-eqb,
 use Rattle.rules.specs.Words.{if_then_else_}
 use Rattle.rules.specs.Settings.{Settings, automatic, revertive, reversion}
 use Rattle.rules.specs.Selection.{Inputs, Choice, candidate, best, settled, waitLimit, waitAfter, switches, reverted, reselected, chosen}
-use Rattle.rules.specs.BusyHours.{LostReference, Kept, OnlyReversions, WaitInWindow, BusyHours}
+use Rattle.rules.specs.BusyHours.{NoReversion, LostReference, Kept, OnlyReversions, WaitInWindow, BusyHours}
 use Rattle.rules.proofs.Tests.{if-case, by-test}
 use Rattle.rules.proofs.Chosen.{waiting, wait-one}
 use Rattle.rules.proofs.Windows.{blocked-run}
@@ -74,6 +74,13 @@ module _ (n b : ℕ) (c : Choice) where
   not-over true e = rw (unfinished n b c e) refl
   not-over false e = rw e refl
 
+no-reversion : NoReversion
+unfolding chosen reselected reverted settled
+no-reversion set inputs c a e =
+    rw (a, e)
+    (if-case (λ (d : Choice). d .selected ≡ c .selected) (eqb (c .selected) (best set inputs)) (λ z. refl)
+    (λ z. if-case (λ (d : Choice). d .selected ≡ c .selected) (not (revertive set (c .selected))) (λ v. refl) (λ v. refl)))
+
 -- a candidate that is not the best, and is revertive
 module _ (set : Settings) (inputs : Inputs) (c : Choice) (a : automatic set ≡ true) (n : not (candidate set inputs (c .selected)) ≡ false)
     (e : eqb (c .selected) (best set inputs) ≡ false) (v : not (revertive set (c .selected)) ≡ false) where
@@ -93,7 +100,6 @@ module _ (set : Settings) (inputs : Inputs) (c : Choice) (a : automatic set ≡ 
         stands = not-false (candidate set inputs (c .selected)) n;
         reverts = not-false (revertive set (c .selected)) v;
         free = is false ∙ switched (reversion set) (best set inputs) c t;
-        stays = ap (λ (d : Choice). d .selected) waits-on;
         over = rw waits-on (finished (reversion set) (best set inputs) c t);
         for = ap (λ (d : Choice). d .waitFor) waits-on;
       }))
@@ -113,6 +119,7 @@ only-reversions set inputs c =
 pub busy-hours : BusyHours
 busy-hours =
     record {
+      noReversion = no-reversion;
       lostReference = lost-reference;
       onlyReversions = only-reversions;
       waitInWindow = record { rises = rises; rests = rests; ends = ends };

@@ -1,9 +1,9 @@
 -- The traps of document 01 and the cheap programs of "Every result is settled", avoided, and a few more wrong
 -- rules, those of requests #102 and #104 to #107 among them: for each a small case in which the rules give something else.
 -- A run is from the standard fresh unit, or from a unit that is written down: one history is enough to tell a wrong rule.
-use Prim.Native.Nat.{ℕ}
+use Prim.Native.Nat.{ℕ, _+_, _*_}
 use mathlib.Core.Bool.{Bool, true, false}
-use mathlib.Core.List.{List, [], _∷_, _++_}
+use mathlib.Core.List.{List, [], _∷_, _++_, map}
 use lib.IntN.{pos, negsuc}
 use lib.ListN.{length, replicate, set, take}
 use Rattle.rules.specs.Words.{if_then_else_}
@@ -92,6 +92,10 @@ wasClear e = input (next (unit (fresh .settings) (clocks true true true)) e .inp
 -- a window, by its first tick and its end
 abbrev window : ℕ → ℕ → Window
 window start end = record { start = start; end = end }
+
+-- so many windows of one tick each, with a free tick between
+abbrev windowsOf : ℕ → List Window
+windowsOf count = take count (map (λ k. window (2 * k) (2 * k + 1)) (0 ∷ 1 ∷ 2 ∷ 3 ∷ 4 ∷ 5 ∷ 6 ∷ 7 ∷ 8 ∷ []))
 
 -- 2 is selected and revertive, 1 is better, and there is no delay: what is selected after a tick at this place, with a window of the places 4 and 5
 abbrev afterTick : ℕ → ℕ
@@ -252,8 +256,8 @@ hours =
     -- a place past the week's end, nine windows, an empty one, or one past the week's end let through; those at the bounds refused
     refusal fresh (setWeek 4_725_000) is 16
     ∷ refusal fresh (setWeek 4_724_999) is 0
-    ∷ refusal fresh (setWindows (replicate 9 (window 1 2))) is 16
-    ∷ refusal fresh (setWindows (window 0 1 ∷ window 2 3 ∷ window 4 5 ∷ window 6 7 ∷ window 8 9 ∷ window 10 11 ∷ window 12 13 ∷ window 14 15 ∷ [])) is 0
+    ∷ refusal fresh (setWindows (windowsOf 9)) is 16
+    ∷ refusal fresh (setWindows (windowsOf 8)) is 0
     ∷ refusal fresh (setWindows (window 5 5 ∷ [])) is 16
     ∷ refusal fresh (setWindows (window 5 6 ∷ [])) is 0
     ∷ refusal fresh (setWindows (window 5 4_725_001 ∷ [])) is 16
@@ -262,6 +266,7 @@ hours =
     -- windows that touch, that overlap or that descend; a first at 0 with a last that ends the week, which may be one and the same
     ∷ refusal fresh (setWindows (window 0 5 ∷ window 5 6 ∷ [])) is 16
     ∷ refusal fresh (setWindows (window 0 5 ∷ window 6 7 ∷ [])) is 0
+    ∷ refusal fresh (setWindows (window 0 5 ∷ window 4 7 ∷ [])) is 16
     ∷ refusal fresh (setWindows (window 6 7 ∷ window 0 5 ∷ [])) is 16
     ∷ refusal fresh (setWindows (window 0 1 ∷ window 4_724_999 4_725_000 ∷ [])) is 16
     ∷ refusal fresh (setWindows (window 0 4_725_000 ∷ [])) is 16
@@ -271,10 +276,11 @@ hours =
     ∷ run fresh (setWindows (window 1 2 ∷ []) ∷ setWeek 7 ∷ []) .week is record { place = 7; windows = window 1 2 ∷ [] }
     ∷ run fresh (setWeek 7 ∷ setWindows (window 1 2 ∷ []) ∷ []) .week is record { place = 7; windows = window 1 2 ∷ [] }
     ∷ run fresh (setWeek 7 ∷ setWeek 4_725_000 ∷ setWindows (window 2 2 ∷ []) ∷ []) .week is record { place = 7; windows = [] }
-    -- a place that goes past the week's end, or returns too early; a refused tick that advances it, or a Hit
+    -- a place that goes past the week's end, or returns too early; a refused tick that advances it, or a write; a tick that does not, or a Hit that does
     ∷ advanced 4_724_999 is 0
     ∷ advanced 4_724_998 is 4_724_999
-    ∷ run fresh (tick 0 false (pos 125_000_001) ∷ hit ∷ write 0x40 1 ∷ []) .week .place is 0
+    ∷ run fresh (tick 0 false (pos 125_000_001) ∷ write 0x40 1 ∷ []) .week .place is 0
+    ∷ run (unit (setting 0 0 0) (clocks true false false)) (tick 0 false (pos 0) ∷ hit ∷ []) .week .place is 1
     -- a start that lets through, an end that blocks; a place that advances before the selection
     ∷ afterTick 4 is 2
     ∷ afterTick 5 is 2

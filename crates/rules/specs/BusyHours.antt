@@ -10,19 +10,24 @@ use Rattle.rules.specs.Selection.{Inputs, Choice, candidate, best, settl
 
 -- ---- a window blocks the switch of a reversion, and nothing else
 
+-- windows "block the switch of a reversion": in one, a selected candidate stays selected
+abbrev pub NoReversion : Type 0
+NoReversion =
+    (set : Settings) (inputs : Inputs) (c : Choice) → automatic set ≡ true → candidate set inputs (c .selected) ≡ true
+    → chosen true set inputs c .selected ≡ c .selected
+
 -- "A switch off a lost reference is never blocked": where the selected one is no candidate any more, the best is taken, or 0, in a window or not
 abbrev pub LostReference : Type 0
 LostReference =
     (blocked : Bool) (set : Settings) (inputs : Inputs) (c : Choice) → automatic set ≡ true → candidate set inputs (c .selected) ≡ false
     → chosen blocked set inputs c ≡ settled (best set inputs)
 
--- a reversion that would switch to the best, and does not: the selected one stays, and the wait for the best is over
+-- a reversion that would switch to the best, and does not, with its wait for the best over
 pub record Kept (set : Settings) (inputs : Inputs) (c : Choice) : Type 0 where
   pub control : automatic set ≡ true
   pub stands : candidate set inputs (c .selected) ≡ true
   pub reverts : revertive set (c .selected) ≡ true
   pub free : chosen false set inputs c ≡ settled (best set inputs)
-  pub stays : chosen true set inputs c .selected ≡ c .selected
   pub over : reversion set < chosen true set inputs c .wait
   pub for : chosen true set inputs c .waitFor ≡ best set inputs
 
@@ -46,7 +51,7 @@ unfoldable pub placeAfter : ℕ → ℕ → ℕ
 placeAfter zero place = place
 placeAfter (suc k) place = placeAfter k (advanced place)
 
--- "no longer than the longest window, also over the week's end": if k ticks in a row are blocked, from any place on
+-- k ticks in a row that are blocked, from any place on, are no more than the longest window has, over the week's end too
 abbrev pub BlockedRun : Type 0
 BlockedRun =
     (windows : List Window) (place k : ℕ) → windowsFit windows ≡ true → ((j : ℕ) → j < k → busy windows (placeAfter j place) ≡ true) → k ≤ longest windows
@@ -54,6 +59,7 @@ BlockedRun =
 -- ---- together
 
 pub record BusyHours : Type 0 where
+  pub noReversion : NoReversion
   pub lostReference : LostReference
   pub onlyReversions : OnlyReversions
   pub waitInWindow : WaitInWindow

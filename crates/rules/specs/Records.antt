@@ -31,8 +31,8 @@ pub record RecordServed (r : ℕ) (s : State) (after : List Event) (records : Li
 
 -- THE PROMISE IN THE RECORDS. Take every sheet that runs; its settings and events are `before`, `after`, `later`, an event e and the rest, with the moment
 -- after `before`. For every reference r for which the provisos hold up to e: if 860 + n accepted ticks stand in `after`, the record of e shows r as selected;
--- if 6,379 + n do, it shows Ready too. The fresh unit is the standard one, on which every sheet runs, and the sets are as they start, since a sheet holds no
--- call of #104.
+-- if 6,379 + n do, it shows Ready too. The fresh unit is the standard one, on which every sheet runs, the sets are as they start, and there is no window,
+-- since a sheet holds no call.
 abbrev pub RecordsPromise : Type 0
 RecordsPromise =
     (sheet : List ℕ) (room : ℕ) (before after later : List Event) (e : Event) (rest : List Event) (r : ℕ)

@@ -46,7 +46,7 @@ pub fn settled(c: u8) -> Choice
     }
 }
 
-// The rule `waitAfter`: the wait for `b` with this tick, in a window or not. There a wait over n stays.
+// The rule `waitAfter`: the wait for `b` with this tick, in a window or not. In one a wait over n for the same best stays.
 fn wait_after(blocked: bool, n: u64, b: u8, c: Choice) -> u64
     ensures { λ r. ⌜ r ≡ waitAfter blocked n b (choiceOf c) ⌝ }
 {

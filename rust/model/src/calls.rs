@@ -22,8 +22,8 @@ pub enum Call {
 }
 
 impl Call {
-    /// The call that sets these windows, of which there are eight at most, with
-    /// 0 for the other numbers.
+    /// The call that sets these windows, of which there are 255 at most: the
+    /// numbers of the first eight, with 0 for the others.
     pub fn windows(windows: &[Window]) -> Call {
         let mut numbers = [0; WINDOW_NUMBERS];
         for (pair, window) in numbers.chunks_exact_mut(2).zip(windows) {

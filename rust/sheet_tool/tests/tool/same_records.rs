@@ -2,7 +2,7 @@
 //! stepped through the sheet by the host's functions; a text's with a table or
 //! with calls are the model's too.
 
-use model::{BucketSet, Unit};
+use model::{BucketSet, Unit, Window};
 use sheet_tool::event::Event;
 use sheet_tool::records::{run, Timed};
 use sheet_tool::script::{timed, Host};
@@ -19,22 +19,19 @@ pub fn check(sheet: &Sheet) {
     assert_eq!(timed(&moments), records);
 }
 
-/// The records of a text with a table or with calls, up to the first call that
-/// the model does not have.
+/// The records of a text with a table or with calls.
 pub fn check_host(host: &Host) {
     let mut unit = Unit::fresh();
     if let Some(table) = &host.table {
         assert_eq!(unit.load(table), 0);
     }
     let record = |step: &Step| {
-        let refusal = given_to_the_model(&mut unit, step)?;
+        let refusal = given_to_the_model(&mut unit, step);
         let [state, qualified, status] = [0x48, 0x46, 0x49].map(|address| unit.read(address).1);
-        Some([refusal, state, qualified, status])
+        [refusal, state, qualified, status]
     };
-    let model: Vec<model::Record> = host.steps.iter().map_while(record).collect();
-    let records = timed(&host.moments());
-    assert_eq!(records.len(), host.steps.len());
-    compare(&records[..model.len()], &model);
+    let model: Vec<model::Record> = host.steps.iter().map(record).collect();
+    compare(&timed(&host.moments()), &model);
 }
 
 fn compare(records: &[Timed], model: &[model::Record]) {
@@ -51,10 +48,9 @@ fn compare(records: &[Timed], model: &[model::Record]) {
     }
 }
 
-/// The refusal's number; None for the calls of #107, which the model does not
-/// have.
-fn given_to_the_model(unit: &mut Unit, step: &Step) -> Option<u8> {
-    let refusal = match *step {
+/// The refusal's number.
+fn given_to_the_model(unit: &mut Unit, step: &Step) -> u8 {
+    match *step {
         Step::Event(Event { kind, a, b, word }) => unit.event_fields(kind, a, b, word),
         Step::Call(Call::AssignBucket { input, set }) => {
             unit.call(&model::Call::AssignBucket { input, set })
@@ -64,7 +60,12 @@ fn given_to_the_model(unit: &mut Unit, step: &Step) -> Option<u8> {
             let numbers = BucketSet::of(size, set_level, clear_level, decay);
             unit.call(&model::Call::SetBucket { set, numbers })
         }
-        Step::Call(Call::SetWeek { .. } | Call::SetWindows { .. }) => return None,
-    };
-    Some(refusal)
+        Step::Call(Call::SetWeek { place }) => unit.call(&model::Call::SetWeek { place }),
+        Step::Call(Call::SetWindows { ref windows }) => {
+            let windows = windows
+                .iter()
+                .map(|window| Window::of(window.start, window.end));
+            unit.call(&model::Call::windows(&windows.collect::<Vec<_>>()))
+        }
+    }
 }
