@@ -449,7 +449,10 @@ static void busy_hours(void)
     clean_ticks(&u, 10);
     expect("#107 ten ticks in the window: not selected", selected(&u), 2);
     expect("#107 the wait is n + 1 = 1", (long)u.choice.wait, 1);
-    struct unit free_tick = u, other = u, lost = u, made_anew = u;
+    struct unit free_tick = u, other = u, lost = u, made_anew = u, full = u;
+    static const uint32_t eight[16] = {1, 2, 3, 4, 5, 6, 7, 8, 9, 10, 11, 12, 13, 14, 15, 16};
+    expect("#107 eight windows are accepted", unit_set_windows(&full, 8, eight), 0);
+    expect("#107 place 4,724,999 is accepted", unit_set_week(&full, WEEK - 1), 0);
     clean_ticks(&free_tick, 1);
     expect("#107 its end is free: selected", selected(&free_tick), 1);
     unit_set_week(&other, 1011);

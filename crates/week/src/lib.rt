@@ -86,7 +86,7 @@ pub fn advanced(place: u32) -> u32
 
 // ---- the check
 
-// 16 for a place past the week's end, else 0.
+// 16 for a place of 4,725,000 or more, else 0.
 pub fn week_refusal(place: u32) -> u8
     ensures { λ r. ⌜ r ≡ weekRefusal place ⌝ }
 {

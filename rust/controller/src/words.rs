@@ -37,7 +37,7 @@ const REASONS: [&str; 16] = [
     "output under 4 bytes a record, or page output under 1,400 bytes a page",
     "bucket set out of its bounds, or set number over 3",
     "table not 27 bytes, a forbidden nonzero, a value above the register's largest, or reject - qualification under 6",
-    "place past the week's end, over eight windows, or windows out of their bounds",
+    "place 4,725,000 or more, over eight windows, or windows out of their bounds",
 ];
 
 /// The reason of a refusal, by its number from 1.

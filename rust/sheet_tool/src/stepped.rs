@@ -1,5 +1,6 @@
 //! A run by the host's functions: a unit that takes one step after the other. It
-//! also tells the available inputs, which the records do not have.
+//! also tells the available inputs and the busy hours, which the records do not
+//! have.
 
 use crate::records::{Record, Timed};
 use crate::sheet::Sheet;

@@ -190,7 +190,7 @@ fn refused_calls() {
     let text = format!("week 168:00\n{}\nwindows none\ntick 0 0 0\n", nine);
     let lines = "\
 first   last    from s      to s  state         selected  qualified  alarm  Ready  backup  refusal
-    0      1     0.000     0.000  Free Run      none      ........   alarm  -      -       16 place past the week's end, over eight windows, or windows out of their bounds
+    0      1     0.000     0.000  Free Run      none      ........   alarm  -      -       16 place 4,725,000 or more, over eight windows, or windows out of their bounds
     2      3     0.000     0.128  Free Run      none      ........   alarm  -      -       0
 ";
     let run = sheet_with(&["run", "--text"], text.as_bytes()).text();
