@@ -128,8 +128,8 @@ impl Item {
 
 /// The items in parts: those of #104 need not be asked where no bucket set
 /// plays a part, nor those of #105 where no table does, nor those of #106 where
-/// nothing is measured, nor those of #107 where there are no windows. That saves
-/// a third of the time.
+/// nothing is measured, nor those of #107 where there is no call, table, window
+/// or end of a week. That saves time.
 pub struct Coverage {
     items: Vec<Item>,
     of_buckets: Vec<Item>,

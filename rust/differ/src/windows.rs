@@ -1,7 +1,10 @@
 //! The numbers of a call that sets windows, and such calls made plainer.
 
-use model::{Call, Window, MOST_WINDOWS, WINDOW_NUMBERS};
+use model::{Call, Window, MOST_WINDOWS, TICKS_PER_WEEK, WINDOW_NUMBERS};
 use std::fmt;
+
+/// The last place of the week.
+pub const LAST: u32 = TICKS_PER_WEEK - 1;
 
 /// The 16 numbers of a call.
 pub type Numbers = [u32; WINDOW_NUMBERS];

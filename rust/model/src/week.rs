@@ -94,7 +94,7 @@ impl Week {
 /// week".
 ///
 /// Reading: windows of which one ends where the next starts have no free tick
-/// between. There may be none.
+/// between. No windows at all can be set too.
 pub fn windows_can_be(windows: &[Window]) -> bool {
     let mut neighbours = windows.iter().zip(windows.iter().skip(1));
     let first_at_0 = windows.first().map_or(false, |first| first.start == 0);

@@ -3,10 +3,8 @@
 
 use super::{family, singles, Condition, Moment, SingleCondition};
 use crate::report::grouped;
-use crate::windows::{first_windows, Numbers};
+use crate::windows::{first_windows, Numbers, LAST};
 use model::{wait_limit, windows_can_be, Call, Window, FREE_RUN, TICKS_PER_WEEK};
-
-const LAST: u32 = TICKS_PER_WEEK - 1;
 
 impl Moment<'_> {
     /// A call, a table, or an event with windows or at the week's end.
@@ -94,7 +92,10 @@ impl Moment<'_> {
 
     /// A reversion in the first tick after a window that blocked it.
     fn first_free_switch(&self) -> bool {
-        self.first_free_tick() && self.left_a_candidate() && self.before.wait.ticks > self.n()
+        self.automatic_tick()
+            && self.first_free_tick()
+            && self.left_a_candidate()
+            && self.before.wait.ticks > self.n()
     }
 
     /// A tick in a window that leaves what is no candidate any more.
@@ -307,7 +308,7 @@ const TICKS: &[(&str, SingleCondition)] = &[
         m.first_free_switch() && windows.iter().any(|window| window.start == next)
     }),
     ("reversion done in the last tick before a window", |m| {
-        m.accepted_tick() && m.left_a_candidate() && !m.before.week.busy() && m.after.week.busy()
+        m.automatic_tick() && m.left_a_candidate() && !m.before.week.busy() && m.after.week.busy()
     }),
     ("wait that goes on after a window", |m| {
         m.first_free_tick() && m.before.wait.ticks > 0 && m.after.wait.ticks > 1
@@ -350,14 +351,14 @@ const TICKS: &[(&str, SingleCondition)] = &[
         m.lost_in_window() && m.before.reference_selected() && m.after.reference_selected()
     }),
     ("reference lost in a window, none selected", |m| {
-        m.lost_in_window() && m.after.selected == 0
+        m.lost_in_window() && m.before.reference_selected() && m.after.selected == 0
     }),
     ("reference lost in a window, Free Run selected", |m| {
         m.lost_in_window() && m.after.selected == FREE_RUN
     }),
     (
         "reference lost in a window, the switch blocked before",
-        |m| m.lost_in_window() && m.was_blocked(),
+        |m| m.lost_in_window() && m.before.reference_selected() && m.was_blocked(),
     ),
     ("Free Run lost in a window", |m| {
         m.lost_in_window() && m.before.selected == FREE_RUN

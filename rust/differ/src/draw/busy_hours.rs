@@ -1,11 +1,9 @@
 //! The calls that set the place in the week and the windows, drawn at random:
 //! such as are accepted, and such as are refused.
 
+use crate::windows::LAST;
 use model::{windows_can_be, Call, Window, MOST_WINDOWS, TICKS_PER_WEEK, WINDOW_NUMBERS};
 use shared::random::Random;
-
-/// The last place of the week.
-const LAST: u32 = TICKS_PER_WEEK - 1;
 
 /// A place in the week, most often near its end or its start.
 pub fn place(random: &mut Random) -> u32 {
@@ -15,7 +13,7 @@ pub fn place(random: &mut Random) -> u32 {
 }
 
 /// A call that sets windows which can be: most often a few short ones, of which
-/// the first has the place or is next to it.
+/// the first begins at the place, a tick after it, or up to 60 ticks before it.
 pub fn windows_call(random: &mut Random, place: u32) -> Call {
     let edge = random.pick(&[
         Window::of(0, 1),
@@ -31,15 +29,16 @@ pub fn windows_call(random: &mut Random, place: u32) -> Call {
     call_of(random, &windows)
 }
 
-/// From one to eight short windows at the place or next to it.
+/// From one to eight short windows, of which the first begins at the place, a
+/// tick after it, or up to 60 ticks before it.
 fn few_windows(random: &mut Random, place: u32) -> Vec<Window> {
     let count = random.pick(&[1, 1, 2, 2, 3, 5, 7, 8]);
     windows_near(random, place, count)
 }
 
-/// So many short windows, of which the first has the place or is next to it and
-/// each other follows soon. Beyond the week's end they go on at its start; what
-/// is cut off there is left out.
+/// So many short windows, of which the first begins at the place, a tick after
+/// it, or up to 60 ticks before it, and each other follows soon. Beyond the
+/// week's end they go on at its start; what is cut off there is left out.
 fn windows_near(random: &mut Random, place: u32, count: usize) -> Vec<Window> {
     let before = random.pick(&[0, 0, 0, 1, 2, 10, 60]);
     let after = random.pick(&[0, 0, 0, 1]);

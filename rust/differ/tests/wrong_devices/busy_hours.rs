@@ -4,9 +4,8 @@
 
 use crate::faults::*;
 use differ::fields::Fields;
+use differ::windows::LAST;
 use model::{wait_limit, Unit, Wait, Week, Window, FREE_RUN, TICKS_PER_WEEK};
-
-const LAST: u32 = TICKS_PER_WEEK - 1;
 
 /// Takes a tick with another week; the windows are put back after it, and the
 /// place goes on from where it was.

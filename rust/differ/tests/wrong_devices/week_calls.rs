@@ -2,10 +2,8 @@
 //! what a table leaves of them.
 
 use crate::faults::*;
-use differ::windows::first_windows;
+use differ::windows::{first_windows, LAST};
 use model::{windows_can_be, Call, Unit, Wait, Week, Window, MOST_WINDOWS, TICKS_PER_WEEK};
-
-const LAST: u32 = TICKS_PER_WEEK - 1;
 
 /// The windows of a call for eight at most.
 fn windows_of(call: Call) -> Option<Vec<Window>> {
@@ -39,7 +37,7 @@ fn let_neighbours_through(unit: &mut Unit, call: Call, wrong: fn(&Window, &Windo
 /// Refuses windows that can be, if this holds of them.
 fn refuse_windows(unit: &mut Unit, call: Call, wrong: fn(&[Window]) -> bool) -> u8 {
     match windows_of(call) {
-        Some(windows) if wrong(&windows) => 16,
+        Some(windows) if windows_can_be(&windows) && wrong(&windows) => 16,
         _ => right_call(unit, call),
     }
 }
