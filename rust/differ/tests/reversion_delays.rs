@@ -4,9 +4,13 @@
 //! comes in tick n + 1. The same check is made of the real controller, of the
 //! model, and of models that are wrong for one delay.
 
+#[path = "devices/reversion.rs"]
+mod reversion;
+
 use differ::device::Device;
 use differ::table::Table;
-use model::{wait_limit, Call, Event, Unit, SOAK_TICKS};
+use model::{wait_limit, Call, Unit};
+use reversion::{reverting_device, tick_of_switch};
 
 /// More ticks than the longest wait takes.
 const MOST_TICKS: u32 = 120_000;
@@ -33,57 +37,10 @@ fn wrong_delays<D: Device>(
     let n = least_n();
     delays
         .into_iter()
-        .map(|delay| (delay, tick_of_switch(&mut make.fresh(), delay)))
+        .map(|delay| (delay, reverting_device(make, delay)))
+        .map(|(delay, device)| (delay, tick_of_switch(device, MOST_TICKS)))
         .filter(|&(delay, tick)| tick != Some(n[usize::from(delay)] + 1))
         .collect()
-}
-
-/// The tick of the wait in which a fresh device leaves input 2 for input 1, if
-/// it does.
-fn tick_of_switch<D: Device>(device: &mut D, delay: u8) -> Option<u32> {
-    begin_reversion(device, delay);
-    let left = (1..=MOST_TICKS).find(|_| {
-        tick(device);
-        selected(device) != 2
-    });
-    left.filter(|_| selected(device) == 1)
-}
-
-/// Automatic control, inputs 1 and 2 measured good and qualified; 2 alone was
-/// usable and is selected, revertive; now 1 is usable too, and the wait begins.
-fn begin_reversion<D: Device>(device: &mut D, delay: u8) {
-    for (address, value) in [(0x40, 1), (0x42, 0xfe), (0x1d, 0x08), (0x43, delay)] {
-        send(device, Event::Write { address, value });
-    }
-    for input in [1, 2] {
-        send(device, Event::Measurement { input, offset: 0 });
-    }
-    for _ in 0..SOAK_TICKS {
-        tick(device);
-    }
-    assert_eq!(selected(device), 2);
-    let (address, value) = (0x42, 0xff);
-    send(device, Event::Write { address, value });
-}
-
-/// A tick with no input irregular and the lock flag set, so that no lock alarm
-/// comes.
-fn tick<D: Device>(device: &mut D) {
-    let (mask, lock, sample) = (0, true, 0);
-    send(device, Event::Tick { mask, lock, sample });
-}
-
-/// Sends an event that must be accepted.
-fn send<D: Device>(device: &mut D, event: Event) {
-    let (kind, a, b, word) = event.to_fields();
-    assert_eq!(device.event(kind, a, b, word), 0, "{:?}", event);
-}
-
-/// What register 0x48 says is selected.
-fn selected<D: Device>(device: &D) -> u8 {
-    let (refusal, byte) = device.read(0x48);
-    assert_eq!(refusal, 0);
-    byte & 0x0f
 }
 
 #[test]

@@ -1,6 +1,7 @@
 //! #107, the real controller beside both models: the calls with every count and
-//! with numbers around each bound; every place of the week, and the wait in a
-//! window; and the promise's ticks, reached exactly.
+//! with numbers around each bound; the week's end, and the wait in a window; and
+//! the promise's ticks, reached exactly. Every place of the week is tried in the
+//! controller and the plain model alone.
 
 #[path = "../devices/bench.rs"]
 mod bench;
@@ -12,6 +13,8 @@ mod held;
 #[cfg(feature = "controller")]
 #[path = "../devices/inspected.rs"]
 mod inspected;
+#[path = "../devices/reversion.rs"]
+mod reversion;
 
 /// Asks it of both models, and of the controller by its bytes and by its fields.
 macro_rules! ask_all {
@@ -33,12 +36,9 @@ use bench::Bench;
 use differ::device::Device;
 use differ::windows::Numbers;
 use model::{Call, Window, SOAK_TICKS};
+use reversion::{OTHER, R};
 
 const WEEK: u32 = 4_725_000;
-
-/// The reference that is better, and the one that is revertive and selected.
-const R: u8 = 1;
-const OTHER: u8 = 2;
 
 /// Eight windows, each with a free tick before the next, from 1 on.
 const EIGHT: Numbers = [

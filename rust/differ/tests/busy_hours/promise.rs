@@ -2,7 +2,7 @@
 
 use crate::{tracking_other, OTHER, R};
 use differ::device::Device;
-use model::{wait_limit, LOCK_ALARM_TICKS, SOAK_TICKS};
+use model::{wait_limit, LOCK_ALARM_TICKS, SOAK_TICKS, UNLOCK_TICKS};
 
 /// "The longest window is added to both tick counts promised for a good clock":
 /// with a lock alarm of R that was set in the last tick, R is selected 860 + n
@@ -15,7 +15,7 @@ fn check_promise<D: Device>(make: &D) {
         bench.measure(R);
         bench.clean_ticks(u32::from(SOAK_TICKS));
         assert_eq!(bench.unit().selected, R);
-        bench.ticks(u32::from(LOCK_ALARM_TICKS), 0, false);
+        bench.ticks(u32::from(UNLOCK_TICKS), 0, false);
         assert_eq!(bench.unit().input(R).remainder, LOCK_ALARM_TICKS);
         bench.write(0x42, 0xff);
         let switch = 860 + wait_limit(delay);

@@ -1,43 +1,10 @@
 //! The ticks: every place of the week, the week's end, and the wait in a window.
 
 use crate::beside::Beside;
+use crate::reversion::{reverting_device, selected, take, tick_of_switch, TICK};
 use crate::{reverting, windows, EIGHT, OTHER, R, WEEK};
 use differ::device::Device;
-use differ::sent::Sent;
-use model::{wait_limit, Call, Event, Unit, SOAK_TICKS};
-
-/// A tick with no input irregular and the lock flag set.
-const TICK: Event = Event::Tick {
-    mask: 0,
-    lock: true,
-    sample: 0,
-};
-
-/// Takes what must be accepted, without the comparison with the model.
-fn take<D: Device>(device: &mut D, sent: impl Into<Sent>) {
-    assert_eq!(device.take(sent.into()), 0);
-}
-
-/// What register 0x48 says is selected.
-fn selected<D: Device>(device: &D) -> u8 {
-    device.read(0x48).1 & 0x0f
-}
-
-/// A device that reverts from OTHER to R, its wait beginning with the next tick.
-fn reverting_device<D: Device>(make: &D, delay: u8) -> D {
-    let mut device = make.fresh();
-    for (address, value) in [(0x40, 1), (0x43, delay), (0x1b + OTHER, 0x09), (0x42, 0xfe)] {
-        take(&mut device, Event::Write { address, value });
-    }
-    for input in [R, OTHER] {
-        take(&mut device, Event::Measurement { input, offset: 0 });
-    }
-    (0..SOAK_TICKS).for_each(|_| take(&mut device, TICK));
-    assert_eq!(selected(&device), OTHER);
-    let (address, value) = (0x42, 0xff);
-    take(&mut device, Event::Write { address, value });
-    device
-}
+use model::{wait_limit, Call, Unit};
 
 /// A reversion in each place of the week: it is done, or blocked where the place
 /// is in a window.
@@ -71,12 +38,7 @@ fn check_whole_week<D: Device>(make: &D) {
     let mut device = reverting_device(make, 0);
     take(&mut device, windows(&[(0, WEEK - 1)]));
     take(&mut device, Call::SetWeek { place: 0 });
-    for _ in 0..WEEK - 1 {
-        take(&mut device, TICK);
-        assert_eq!(selected(&device), OTHER);
-    }
-    take(&mut device, TICK);
-    assert_eq!(selected(&device), R);
+    assert_eq!(tick_of_switch(device, WEEK), Some(WEEK));
 }
 
 #[test]
@@ -119,18 +81,15 @@ fn check_delays<D: Device>(make: &D) {
         let blocked = wait_limit(delay) + 6;
         take(&mut device, windows(&[(0, blocked)]));
         take(&mut device, Call::SetWeek { place: 0 });
-        let left = (1..=blocked + 1).find(|_| {
-            take(&mut device, TICK);
-            selected(&device) != OTHER
-        });
-        let expected = (Some(blocked + 1), R);
-        assert_eq!((left, selected(&device)), expected, "delay {}", delay);
+        let free = blocked + 1;
+        let found = tick_of_switch(device, free);
+        assert_eq!(found, Some(free), "delay {}", delay);
     }
 }
 
 #[test]
 fn each_delay_in_a_window() {
-    check_delays(&Unit::fresh());
+    check_delays(&Beside::fresh_pair());
     #[cfg(feature = "controller")]
     check_delays(&controller::Unit::fresh());
 }

@@ -3,9 +3,7 @@
 
 use crate::bench::*;
 use crate::calls::*;
-use model::{wait_limit, Unit, LOCK_ALARM_TICKS};
-
-const WEEK: u32 = 4_725_000;
+use model::{wait_limit, Unit, UNLOCK_TICKS};
 
 /// As `reverting`, at the start of a window of so many ticks.
 fn reverting_in_window(delay: u8, length: u32) -> Unit {
@@ -233,7 +231,7 @@ fn a_lost_reference_is_left_at_once() {
 fn a_lock_alarm_in_a_window_is_a_loss() {
     let mut unit = reverting_in_window(2, 5_000);
     wait_ticks(&mut unit, 10);
-    clean_ticks(&mut unit, u32::from(LOCK_ALARM_TICKS) - 1);
+    clean_ticks(&mut unit, u32::from(UNLOCK_TICKS) - 1);
     assert_eq!(unit.selected, 2);
     clean_ticks(&mut unit, 1);
     assert_eq!(unit.selected, 1);

@@ -2,6 +2,9 @@
 
 use model::{Call, Unit, Window};
 
+/// The ticks of a week.
+pub const WEEK: u32 = 4_725_000;
+
 /// Takes a call that must be accepted.
 pub fn accept_call(unit: &mut Unit, call: Call) {
     assert_eq!(unit.call(&call), 0, "{:?} is refused", call);

@@ -5,8 +5,6 @@ use crate::bench::*;
 use crate::calls::*;
 use model::{Call, Event, Unit, Week, Window, SAMPLE_LIMIT};
 
-const WEEK: u32 = 4_725_000;
-
 fn refuse_windows(unit: &mut Unit, list: &[(u32, u32)]) {
     refuse_call(unit, Call::windows(&windows(list)), 16);
 }
