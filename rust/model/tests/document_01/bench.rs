@@ -138,3 +138,15 @@ pub fn wait_ticks(unit: &mut Unit, count: u32) {
 pub fn write_event(address: u8, value: u8) -> Event {
     Event::Write { address, value }
 }
+
+/// What ends a wait for input 1 while input 2 is selected: input 1 masked, input
+/// 2 non-revertive, manual control, a Hit.
+pub const ENDS_OF_A_WAIT: [fn(&mut Unit); 4] = [
+    |unit| write(unit, 0x42, 0xfe),
+    |unit| write(unit, 0x1d, 0x00),
+    |unit| {
+        write(unit, 0x41, 2);
+        write(unit, 0x40, 0);
+    },
+    hit,
+];

@@ -1,7 +1,7 @@
 //! Boundaries of the selection: order, reversion, manual control, Free Run.
 
 use crate::bench::*;
-use model::{wait_limit, Unit};
+use model::wait_limit;
 
 #[test]
 fn priority_comes_first_then_number() {
@@ -55,16 +55,7 @@ fn the_wait_starts_at_1_for_another_best() {
 
 #[test]
 fn the_wait_is_0_when_best_non_revertive_manual_or_hit() {
-    let reasons: [fn(&mut Unit); 4] = [
-        |unit| write(unit, 0x42, 0xfe),
-        |unit| write(unit, 0x1d, 0x00),
-        |unit| {
-            write(unit, 0x41, 2);
-            write(unit, 0x40, 0);
-        },
-        hit,
-    ];
-    for reason in reasons {
+    for reason in ENDS_OF_A_WAIT {
         let mut unit = reverting(1);
         wait_ticks(&mut unit, 100);
         assert_eq!(unit.wait.ticks, 100);

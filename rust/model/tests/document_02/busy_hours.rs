@@ -179,16 +179,7 @@ fn the_wait_in_a_window_is_1_for_another_best() {
 /// What sets the wait to 0 does so in a window.
 #[test]
 fn the_wait_in_a_window_is_0_when_best_non_revertive_manual_or_hit() {
-    let reasons: [fn(&mut Unit); 4] = [
-        |unit| write(unit, 0x42, 0xfe),
-        |unit| write(unit, 0x1d, 0x00),
-        |unit| {
-            write(unit, 0x41, 2);
-            write(unit, 0x40, 0);
-        },
-        hit,
-    ];
-    for reason in reasons {
+    for reason in ENDS_OF_A_WAIT {
         let mut unit = reverting_in_window(1, 5_000);
         wait_ticks(&mut unit, 600);
         assert_eq!(waited(&unit), (470, 2));
