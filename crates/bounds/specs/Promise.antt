@@ -9,7 +9,7 @@ use lib.ListN.{replicate}
 use Rattle.rules.specs.Events.{Event, tick, measurement, write, setBucket, assignBucket, setWeek, setWindows}
 use Rattle.rules.specs.Monitors.{alarmTicks}
 use Rattle.rules.specs.Week.{longest}
-use Rattle.rules.specs.Selection.{input}
+use Rattle.rules.specs.Inputs.{input}
 use Rattle.rules.specs.State.{State, selected, Ready}
 use Rattle.rules.specs.Registers.{fresh}
 use Rattle.rules.specs.Run.{run}

@@ -10,7 +10,7 @@ use Rattle.rules.specs.Week.{Week}
 use Rattle.rules.specs.Refusals.{refusal}
 use Rattle.rules.specs.Registers.{settingsFrom}
 use Rattle.rules.specs.Run.{afterCall, afterWeek, effect}
-use Rattle.rules.specs.Selection.{Inputs}
+use Rattle.rules.specs.Inputs.{Inputs}
 use Rattle.buckets.specs.Bridge.{bucketsOf}
 use Rattle.history.specs.Bridge.{historyOf}
 use Rattle.inputs.specs.Bridge.{isSet, inputsOf}

@@ -11,7 +11,8 @@ use borrow.Author.Tests.{eqb-true, ltb-true, ltb-false}
 use Rattle.rules.specs.Words.{if_then_else_, isInput}
 use Rattle.rules.specs.Monitors.{qualified, fullSoak}
 use Rattle.rules.specs.Settings.{Settings, priority, usable, ahead}
-use Rattle.rules.specs.Selection.{Inputs, input, available, candidate, bestUpTo, best}
+use Rattle.rules.specs.Inputs.{Inputs, input}
+use Rattle.rules.specs.Selection.{available, candidate, bestUpTo, best}
 use Rattle.inputs.specs.declared.Monitors.{Monitors}
 use Rattle.buckets.specs.Bridge.{eight}
 use Rattle.inputs.specs.Bridge.{inputsOf, withSoak}

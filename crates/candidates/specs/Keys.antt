@@ -3,7 +3,8 @@ use Prim.Native.Nat.{ℕ, zero, suc, _+_, _*_, min}
 use mathlib.Core.List.{List, [], _∷_}
 use Rattle.rules.specs.Words.{if_then_else_}
 use Rattle.rules.specs.Settings.{Settings, priority, usable}
-use Rattle.rules.specs.Selection.{Inputs, candidate}
+use Rattle.rules.specs.Inputs.{Inputs}
+use Rattle.rules.specs.Selection.{candidate}
 
 -- above every key; its number is 0
 abbrev pub noKey : ℕ

@@ -6,7 +6,7 @@ use lib.IntN.{ℤ, pos, negℤ}
 use lib.ListN.{replicate}
 use Rattle.rules.specs.Events.{Event, tick, oldKind, write}
 use Rattle.rules.specs.Settings.{delayTicks}
-use Rattle.rules.specs.Selection.{input}
+use Rattle.rules.specs.Inputs.{input}
 use Rattle.rules.specs.History.{replaced, value, freshHistory}
 use Rattle.rules.specs.State.{State, selected}
 use Rattle.rules.specs.Registers.{fresh}

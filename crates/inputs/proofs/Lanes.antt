@@ -10,7 +10,7 @@ use lib.Seq.{ext-getD, getD-set-same, getD-set-other}
 use borrow.Author.Tests.{eqb-true, eqb-false}
 use Rattle.rules.specs.Words.{if_then_else_, isInput}
 use Rattle.rules.specs.Monitors.{Input, fullSoak, qualified, atSize, freshInput}
-use Rattle.rules.specs.Selection.{input, altered}
+use Rattle.rules.specs.Inputs.{input, altered}
 use Rattle.rules.proofs.Tests.{by-test, is-between}
 use Rattle.buckets.specs.Bridge.{eight}
 use Rattle.inputs.specs.Bridge.{isSet, inputAt, inputsOf}

@@ -7,7 +7,7 @@ use denote.Triple.Both.{Both}
 use lib.Dec.{eqb}
 use lib.ListN.{getD}
 use Rattle.rules.specs.Monitors.{Input}
-use Rattle.rules.specs.Selection.{Inputs}
+use Rattle.rules.specs.Inputs.{Inputs}
 use Rattle.buckets.specs.Bridge.{eight}
 use Rattle.buckets.specs.declared.Buckets.{Buckets}
 use Rattle.inputs.specs.declared.Monitors.{Monitors}

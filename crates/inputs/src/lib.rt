@@ -9,7 +9,7 @@ ghost use lib.ListN.{length, replicate};
 ghost use lib.ListN as ListN;
 ghost use Rattle.rules.specs.Words.{if_then_else_, isInput};
 ghost use Rattle.rules.specs.Monitors.{qualified, unsoaked, lockAlarmed, frequencyAfter, measured, freshInput};
-ghost use Rattle.rules.specs.Selection.{input, altered};
+ghost use Rattle.rules.specs.Inputs.{input, altered};
 ghost use Rattle.rules.specs.Buckets.{freshBuckets, putAtSize};
 ghost use Rattle.buckets.specs.Bridge.{eight, bucketsOf};
 ghost use Rattle.buckets.specs.declared.Buckets as sets;

@@ -1,4 +1,4 @@
--- A table byte by byte: byte k is that of the map's register at place k, and the command stands at place 10.
+-- A table byte by byte: byte k is that of the map's register at slot k, and the command stands at slot 10.
 use Prim.Native.Nat.{ℕ, _+_, _≤_, _<_}
 use mathlib.Core.Path.{_≡_, refl, ap, sym}
 use mathlib.Core.Bool.{true, false, not, _||_}
@@ -8,7 +8,7 @@ use lib.Dec.{leb, ltb, eqb}
 use lib.ListN.{getD, List·getD-eq-default}
 use borrow.Author.Tests.{eqb-true, eqb-false, ne-eqb, ltb-true, ltb-false, leb-true, le-leb}
 use Rattle.rules.specs.Words.{every}
-use Rattle.rules.specs.Registers.{Register, registers, reads, place, settingsFrom}
+use Rattle.rules.specs.Registers.{Register, registers, reads, slot, settingsFrom}
 use Rattle.rules.specs.Loading.{most, fits}
 use Rattle.rules.proofs.Tests.{by-test, not-true}
 use Rattle.rules.proofs.Tables.{at-index, all-pass, at-below}
@@ -17,11 +17,11 @@ use Rattle.rules.proofs.Tables.{at-index, all-pass, at-below}
 abbrev pub at : ℕ → Register
 at k = getD registers k (reads 0)
 
-own-place : (k : ℕ) → k < 27 → place (at k .address) ≡ k
-unfolding registers place
-own-place k h = eqb-true (place (at k .address)) k (at-below (λ j. eqb (place (at j .address)) j) 27 refl k h)
+own-place : (k : ℕ) → k < 27 → slot (at k .address) ≡ k
+unfolding registers slot
+own-place k h = eqb-true (slot (at k .address)) k (at-below (λ j. eqb (slot (at j .address)) j) 27 refl k h)
 
--- no other place has the command's address
+-- no other slot has the command's address
 pub other-address : (k : ℕ) → (k ≡ 10 → ⊥) → eqb (at k .address) 0x26 ≡ false
 unfolding registers
 other-address k ne =

@@ -7,7 +7,7 @@ use lib.Dec.{ltb}
 use lib.ListN.{length, getD}
 use borrow.Author.Tests.{ltb-true, ltb-false, lt-ltb, le-leb, lt-leb}
 use Rattle.rules.specs.Words.{if_then_else_}
-use Rattle.rules.specs.Registers.{place, stored, settingsFrom}
+use Rattle.rules.specs.Registers.{slot, stored, settingsFrom}
 use Rattle.rules.proofs.Tests.{by-test}
 use Rattle.rules.proofs.Loading.{stored-le}
 use Rattle.registers.proofs.Places.{addressAt, address-place, setting-outside}
@@ -28,19 +28,19 @@ kept-here k v =
 
 module _ (table regs : List ℕ) (l : length table ≡ 27) (m : length regs ≡ 27) (each : (k : ℕ) → k < 27 → getD regs k 0 ≡ keptAt k (getD table k 0)) where
   -- at an address of the map
-  inside : (a : ℕ) → place a < 27 → settingsFrom regs a ≡ stored a (settingsFrom table a)
+  inside : (a : ℕ) → slot a < 27 → settingsFrom regs a ≡ stored a (settingsFrom table a)
   unfolding settingsFrom
   inside a h =
-      each (place a) h
-      ∙ kept-here (place a) (getD table (place a) 0)
-      ∙ ap (λ (b : ℕ). stored b (getD table (place a) 0)) (address-place a h)
+      each (slot a) h
+      ∙ kept-here (slot a) (getD table (slot a) 0)
+      ∙ ap (λ (b : ℕ). stored b (getD table (slot a) 0)) (address-place a h)
 
   -- outside it both are 0
-  outside : (a : ℕ) → 27 ≤ place a → settingsFrom regs a ≡ stored a (settingsFrom table a)
+  outside : (a : ℕ) → 27 ≤ slot a → settingsFrom regs a ≡ stored a (settingsFrom table a)
   outside a h = setting-outside regs a m h ∙ rw (setting-outside table a l h) (omega (arith, stored-le a 0))
 
   here : (a : ℕ) → settingsFrom regs a ≡ stored a (settingsFrom table a)
-  here a = by-test (ltb (place a) 27) (λ e. inside a (ltb-true (place a) 27 e)) (λ e. outside a (ltb-false (place a) 27 e))
+  here a = by-test (ltb (slot a) 27) (λ e. inside a (ltb-true (slot a) 27 e)) (λ e. outside a (ltb-false (slot a) 27 e))
 
   pub kept-all : settingsFrom regs ≡ (λ a. stored a (settingsFrom table a))
   kept-all = λ i a. here a i

@@ -10,7 +10,7 @@ use lib.Pow.{pow-mono}
 use borrow.Author.Tests.{leb-true, leb-false, lt-ltb, le-ltb, ne-eqb}
 use Rattle.rules.specs.Words.{bit}
 use Rattle.rules.specs.Monitors.{Input, levelAfter, decayAfter, alarmAfter, activityAfter, good, soakAfter, monitored}
-use Rattle.rules.specs.Selection.{eachFrom}
+use Rattle.rules.specs.Inputs.{eachFrom}
 use Rattle.rules.specs.Buckets.{bucketOf}
 use Rattle.rules.specs.Tick as Tick
 use Rattle.rules.proofs.Tests.{by-test}

@@ -1,4 +1,4 @@
--- The place of an address in the map belongs to that address alone. An address that is not in the map has the setting 0.
+-- The slot of an address in the map belongs to that address alone. An address that is not in the map has the setting 0.
 use Prim.Native.Nat.{ℕ, _+_, _-_, _≤_, _<_}
 use mathlib.Core.Path.{_≡_, ap, sym, _∙_}
 use mathlib.Core.List.{List}
@@ -7,16 +7,16 @@ use lib.Dec.{ltb}
 use lib.ListN.{length, getD, List·getD-eq-default}
 use borrow.Author.Tests.{lt-ltb, le-ltb, le-leb, lt-leb}
 use Rattle.rules.specs.Words.{if_then_else_, between}
-use Rattle.rules.specs.Registers.{place, settingsFrom}
+use Rattle.rules.specs.Registers.{slot, settingsFrom}
 use Rattle.rules.proofs.Tests.{if-case, low, high}
 
--- the address at a place
+-- the address at a slot
 abbrev pub addressAt : ℕ → ℕ
 addressAt k = if ltb k 12 then k + 0x1c else k + 0x34
 
--- the address at the place of an address in the map is that address
-pub address-place : (a : ℕ) → place a < 27 → addressAt (place a) ≡ a
-unfolding place
+-- the address at the slot of an address in the map is that address
+pub address-place : (a : ℕ) → slot a < 27 → addressAt (slot a) ≡ a
+unfolding slot
 address-place a =
     if-case (λ k. k < 27 → addressAt k ≡ a) (between 0x1c 0x27 a)
     (λ e h. rw (lt-ltb (a - 0x1c) 12 (omega (arith, low 0x1c 0x27 a e, high 0x1c 0x27 a e))) (omega (arith, low 0x1c 0x27 a e)))
@@ -24,22 +24,22 @@ address-place a =
     (λ e h. rw (le-ltb (a - 0x34) 12 (omega (arith, low 0x40 0x4e a e))) (omega (arith, low 0x40 0x4e a e)))
     (λ e h. absurd (omega arith)))
 
--- a place of the map belongs to one address alone
-pub one-address : (a b : ℕ) → place a < 27 → place b ≡ place a → b ≡ a
+-- a slot of the map belongs to one address alone
+pub one-address : (a b : ℕ) → slot a < 27 → slot b ≡ slot a → b ≡ a
 one-address a b h e = sym (address-place b (omega arith)) ∙ ap addressAt e ∙ address-place a h
 
--- with no place in the map, the setting is 0
-pub setting-outside : (regs : List ℕ) (a : ℕ) → length regs ≡ 27 → 27 ≤ place a → settingsFrom regs a ≡ 0
+-- with no slot in the map, the setting is 0
+pub setting-outside : (regs : List ℕ) (a : ℕ) → length regs ≡ 27 → 27 ≤ slot a → settingsFrom regs a ≡ 0
 unfolding settingsFrom
-setting-outside regs a l h = List·getD-eq-default regs 0 {n = place a} (omega arith)
+setting-outside regs a l h = List·getD-eq-default regs 0 {n = slot a} (omega arith)
 
--- an address past 255 has no place in the map
-pub place-past : (a : ℕ) → 255 < a → place a ≡ 27
-unfolding place
+-- an address past 255 has no slot in the map
+pub place-past : (a : ℕ) → 255 < a → slot a ≡ 27
+unfolding slot
 place-past a h = rw (le-leb 0x1c a (omega arith), lt-leb a 0x27 (omega arith), le-leb 0x40 a (omega arith), lt-leb a 0x4e (omega arith))
 
 -- the register of candidate c is byte c - 1
 pub own-register : (regs : List ℕ) (c : ℕ) → 1 ≤ c → c ≤ 9 → settingsFrom regs (0x1b + c) ≡ getD regs (c - 1) 0
-unfolding settingsFrom place
+unfolding settingsFrom slot
 own-register regs c lo hi =
     rw (le-leb 0x1c (0x1b + c) (omega arith), le-leb (0x1b + c) 0x27 (omega arith)) (ap (λ (k : ℕ). getD regs k 0) (omega arith))

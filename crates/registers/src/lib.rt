@@ -116,7 +116,7 @@ const TABLE: [Register; 27] = [
 
 // The place of an address in the map, 0 to 26; 27 for an address that is not in it.
 pub fn place(a: u8) -> usize
-    ensures { λ r. ⌜ r ≡ rules.place a ⌝ }
+    ensures { λ r. ⌜ r ≡ rules.slot a ⌝ }
 {
     if a < 0x1c {
         return 27;

@@ -9,7 +9,8 @@ use borrow.Author.Tests.{eqb-true, eqb-false, leb-true, leb-false, ltb-true, ltb
 use Rattle.rules.specs.Words.{isInput}
 use Rattle.rules.specs.Monitors.{qualified}
 use Rattle.rules.specs.Settings.{Settings, priority, usable, ahead}
-use Rattle.rules.specs.Selection.{Inputs, input, available, candidate, bestUpTo, best}
+use Rattle.rules.specs.Inputs.{Inputs, input}
+use Rattle.rules.specs.Selection.{available, candidate, bestUpTo, best}
 use Rattle.rules.specs.Laws.{BestOf, BestCandidate}
 use Rattle.rules.proofs.Tests.{if-case, by-test, clash, or-true, and-left, and-right, or-cases, low, high}
 

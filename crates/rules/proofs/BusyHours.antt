@@ -8,7 +8,8 @@ use lib.Dec.{leb, eqb}
 use borrow.Author.Tests.{leb-true, leb-false, le-leb, lt-leb, eqb-false, eq-eqb, ne-eqb, not-false}
 use Rattle.rules.specs.Words.{if_then_else_}
 use Rattle.rules.specs.Settings.{Settings, automatic, revertive, reversion}
-use Rattle.rules.specs.Selection.{Inputs, Choice, candidate, best, settled, waitLimit, waitAfter, switches, reverted, reselected, chosen}
+use Rattle.rules.specs.Inputs.{Inputs}
+use Rattle.rules.specs.Selection.{Choice, candidate, best, settled, waitLimit, waitAfter, switches, reverted, reselected, chosen}
 use Rattle.rules.specs.BusyHours.{NoReversion, LostReference, Kept, OnlyReversions, WaitInWindow, BusyHours}
 use Rattle.rules.proofs.Tests.{if-case, by-test}
 use Rattle.rules.proofs.Chosen.{waiting, wait-one}
@@ -25,7 +26,7 @@ module _ (n b : ℕ) (c : Choice) where
   unfinished : switches n (waitAfter false n b c) ≡ false → waitAfter true n b c ≡ waitAfter false n b c
   unfolding waitAfter switches
   unfinished e =
-      by-test (eqb (c .wait) 0 || not (eqb (c .waitFor) b)) (λ t. rw t refl)
+      by-test (eqb (c .wait) 0 || not (eqb (c .awaited) b)) (λ t. rw t refl)
       (λ t. rw t
       (if-case (λ m. min waitLimit m ≡ min waitLimit (c .wait + 1)) (leb (n + 1) (c .wait))
       (λ l. omega (arith, leb-true (n + 1) (c .wait) l, leb-false n (min waitLimit (c .wait + 1) - 1) (rw t at e))) (λ l. refl)))
@@ -34,17 +35,17 @@ module _ (n b : ℕ) (c : Choice) where
   finished : switches n (waitAfter false n b c) ≡ true → n < waitAfter true n b c
   unfolding waitAfter switches
   finished e =
-      by-test (eqb (c .wait) 0 || not (eqb (c .waitFor) b)) (λ t. rw t (omega (arith, leb-true n 0 (rw t at e))))
+      by-test (eqb (c .wait) 0 || not (eqb (c .awaited) b)) (λ t. rw t (omega (arith, leb-true n 0 (rw t at e))))
       (λ t. rw t
       (if-case (λ m. n < min waitLimit m) (leb (n + 1) (c .wait))
       (λ l. omega (arith, leb-true (n + 1) (c .wait) l, leb-true n (min waitLimit (c .wait + 1) - 1) (rw t at e)))
       (λ l. omega (arith, leb-true n (min waitLimit (c .wait + 1) - 1) (rw t at e)))))
 
-  rests : n < c .wait → c .wait ≤ waitLimit → c .waitFor ≡ b → waitAfter true n b c ≡ c .wait
+  rests : n < c .wait → c .wait ≤ waitLimit → c .awaited ≡ b → waitAfter true n b c ≡ c .wait
   unfolding waitAfter
   rests h l e = rw (ne-eqb (c .wait) 0 (λ z. omega arith), e, eq-eqb b b refl, le-leb (n + 1) (c .wait) (omega arith)) (omega arith)
 
-  ends : n < c .wait → c .wait < waitLimit → c .waitFor ≡ b → reverted false n b c ≡ settled b
+  ends : n < c .wait → c .wait < waitLimit → c .awaited ≡ b → reverted false n b c ≡ settled b
   unfolding reverted switches waitAfter
   ends h l e = rw (ne-eqb (c .wait) 0 (λ z. omega arith), e, eq-eqb b b refl) (rw (le-leb n (min waitLimit (c .wait + 1) - 1) (omega arith)) refl)
 
@@ -101,7 +102,7 @@ module _ (set : Settings) (inputs : Inputs) (c : Choice) (a : automatic set ≡ 
         reverts = not-false (revertive set (c .selected)) v;
         free = is false ∙ switched (reversion set) (best set inputs) c t;
         over = rw waits-on (finished (reversion set) (best set inputs) c t);
-        for = ap (λ (d : Choice). d .waitFor) waits-on;
+        for = ap (λ (d : Choice). d .awaited) waits-on;
       }))
       (λ t. inl (is true ∙ same-wait (reversion set) (best set inputs) c t ∙ sym (is false)))
 

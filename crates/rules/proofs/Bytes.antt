@@ -5,7 +5,8 @@ use native.Mathlib.Omega.{arith}
 use lib.Dec.{eqb}
 use Rattle.rules.specs.Monitors.{qualified}
 use Rattle.rules.specs.Pll.{Mode, modeNumber, freeRun, holdover, preLocked, locked, lossOfLock, preLocked2, is}
-use Rattle.rules.specs.Selection.{input, available}
+use Rattle.rules.specs.Inputs.{input}
+use Rattle.rules.specs.Selection.{available}
 use Rattle.rules.specs.History.{held}
 use Rattle.rules.specs.State.{State, mode, Ready}
 use Rattle.rules.specs.Registers.{inMap, readOnly}

@@ -9,7 +9,8 @@ use borrow.Author.Tests.{eqb-true, eqb-false, leb-true, leb-false, eq-eqb, ne-eq
 use Rattle.rules.specs.Words.{isInput}
 use Rattle.rules.specs.Monitors.{qualified}
 use Rattle.rules.specs.Settings.{Settings, automatic, opMode, usable, revertive, reversion}
-use Rattle.rules.specs.Selection.{Inputs, input, Choice, candidate, best, settled, waitLimit, waitAfter, switches, reverted, reselected, manual, chosen}
+use Rattle.rules.specs.Inputs.{Inputs, input}
+use Rattle.rules.specs.Selection.{Choice, candidate, best, settled, waitLimit, waitAfter, switches, reverted, reselected, manual, chosen}
 use Rattle.rules.specs.Laws.{BestOf, Eligible, Judged, Selectable, Selected, NonRevertive, WaitRule}
 use Rattle.rules.proofs.Tests.{if-case, by-test, clash, and-left, and-right, or-true, high}
 use Rattle.rules.proofs.Best.{available-is, candidate-is, candidate-number, best-of}
@@ -18,7 +19,7 @@ use Rattle.rules.proofs.Best.{available-is, candidate-is, candidate-num
 
 -- the wait goes on: another candidate than the best stays selected
 abbrev pub waiting : Bool → ℕ → ℕ → Choice → Choice
-waiting blocked n b c = record { selected = c .selected; wait = waitAfter blocked n b c; waitFor = b }
+waiting blocked n b c = record { selected = c .selected; wait = waitAfter blocked n b c; awaited = b }
 
 -- the wait is over, and no window blocks the switch
 abbrev pub goes : Bool → ℕ → ℕ → Choice → Bool
@@ -135,7 +136,7 @@ selectable-le inputs c (inr q) = omega (arith, high 1 8 c (q .0))
 -- r is not selected yet: another candidate is, and the wait for r goes on
 pub record Waits (blocked : Bool) (n r : ℕ) (c d : Choice) : Type 0 where
   pub counts : d .wait ≡ waitAfter blocked n r c
-  pub for : d .waitFor ≡ r
+  pub for : d .awaited ≡ r
   pub within : blocked ≡ false → waitAfter blocked n r c ≤ n
   pub other : c .selected ≡ r → ⊥
   pub some : c .selected ≡ 0 → ⊥
@@ -182,11 +183,11 @@ rested blocked n w e = omega (arith, leb-true (n + 1) w (and-right blocked (leb 
 pub wait-one : (blocked : Bool) (n r : ℕ) (c : Choice) → 1 ≤ waitAfter blocked n r c
 unfolding waitAfter
 wait-one blocked n r c =
-    if-case (λ m. 1 ≤ m) (eqb (c .wait) 0 || not (eqb (c .waitFor) r)) (λ e. omega arith)
+    if-case (λ m. 1 ≤ m) (eqb (c .wait) 0 || not (eqb (c .awaited) r)) (λ e. omega arith)
     (λ e. if-case (λ m. 1 ≤ min waitLimit m) (blocked && leb (n + 1) (c .wait)) (λ t. omega (arith, rested blocked n (c .wait) t)) (λ t. omega arith))
 
 -- it rises, to n + 1 at least
-pub wait-more : (blocked : Bool) (n r : ℕ) (c : Choice) → c .wait < waitLimit → c .waitFor ≡ r → min (c .wait) n + 1 ≤ waitAfter blocked n r c
+pub wait-more : (blocked : Bool) (n r : ℕ) (c : Choice) → c .wait < waitLimit → c .awaited ≡ r → min (c .wait) n + 1 ≤ waitAfter blocked n r c
 unfolding waitAfter
 wait-more blocked n r c l e =
     by-test (eqb (c .wait) 0) (λ z. rw z (omega (arith, eqb-true (c .wait) 0 z)))
@@ -198,12 +199,12 @@ pub wait-bound : (blocked : Bool) (n r : ℕ) (c : Choice) → n + 1 < waitLimit
 unfolding waitAfter
 wait-bound false n r c d l e = omega (arith, unover false n r c e refl)
 wait-bound true n r c d l e =
-    if-case (λ m. m < waitLimit) (eqb (c .wait) 0 || not (eqb (c .waitFor) r)) (λ z. omega arith)
+    if-case (λ m. m < waitLimit) (eqb (c .wait) 0 || not (eqb (c .awaited) r)) (λ z. omega arith)
     (λ z. if-case (λ m. min waitLimit m < waitLimit) (leb (n + 1) (c .wait)) (λ t. omega arith) (λ t. omega (arith, leb-false (n + 1) (c .wait) t)))
 
 pub wait-rule : WaitRule
 unfolding waitAfter reverted switches settled
-wait-rule = record { anew = λ blocked n b c ne. rw (ne-eqb (c .waitFor) b ne) (rw (or-true (eqb (c .wait) 0)) refl); full = full }
+wait-rule = record { anew = λ blocked n b c ne. rw (ne-eqb (c .awaited) b ne) (rw (or-true (eqb (c .wait) 0)) refl); full = full }
   where
     full : (blocked : Bool) (n b : ℕ) (c : Choice) → (c .selected ≡ b → ⊥) → reverted blocked n b c .selected ≡ b
         → (n < waitAfter blocked n b c) × (blocked ≡ false)

@@ -13,7 +13,8 @@ use Rattle.rules.specs.Events.{Event, tick, measurement, hit, write, set
 use Rattle.rules.specs.Pll.{alarmDue}
 use Rattle.rules.specs.Settings.{Settings, policy}
 use Rattle.rules.specs.Week.{Week}
-use Rattle.rules.specs.Selection.{Inputs, Choice, chosen, unselectedLoop}
+use Rattle.rules.specs.Inputs.{Inputs}
+use Rattle.rules.specs.Selection.{Choice, chosen, unselectedLoop}
 use Rattle.rules.specs.Buckets.{bucketFrom, Buckets, setAt, withSet, withAssigned, putAtSize, having}
 use Rattle.rules.specs.History.{held, filling, commanded, freshHistory}
 use Rattle.rules.specs.State.{State, selected, Blocked, Ready}

@@ -38,7 +38,7 @@ unfolding
     History.startsBuilding History.withLast History.noted History.recorded History.sumOf History.value History.backedUp History.replaced
     History.withCommand History.commanded History.freshHistory
     Tick.watched Tick.watchedAfter Tick.loopAfter Tick.inputsAfter Tick.holdingAfter Tick.weekAfter Tick.steps1to4 Tick.step5 Tick.ticked
-    Registers.registers Registers.place Registers.inMap Registers.register Registers.readOnly Registers.largest Registers.stored Registers.written
+    Registers.registers Registers.slot Registers.inMap Registers.register Registers.readOnly Registers.largest Registers.stored Registers.written
     Registers.settingsFrom Registers.freshWith Registers.freshTable Registers.fresh
     Reading.maskUpTo Reading.countUpTo Reading.qualifiedMask Reading.availableMask Reading.availableCount Reading.hours Reading.stateByte
     Reading.statusByte Reading.twos Reading.valueByte Reading.shown Reading.content Reading.read

@@ -9,7 +9,7 @@ use lib.ListN.{length, getD, length-set}
 use lib.Seq.{getD-set-same, getD-set-other}
 use borrow.Author.Tests.{eqb-true, eqb-false}
 use Rattle.rules.specs.Monitors.{Input, freshInput}
-use Rattle.rules.specs.Selection.{Inputs, input, altered, eachFrom}
+use Rattle.rules.specs.Inputs.{Inputs, input, altered, eachFrom}
 use Rattle.rules.proofs.Tests.{by-test}
 
 pub length-each : (f : ℕ → Input → Input) (k : ℕ) (l : Inputs) → length (eachFrom f k l) ≡ length l

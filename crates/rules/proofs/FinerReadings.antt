@@ -12,7 +12,7 @@ use Rattle.rules.specs.Words.{if_then_else_}
 use Rattle.rules.specs.Events.{Event, tick, measurement, hit, write, setBucket, assignBucket, setWeek, setWindows, halfPpm}
 use Rattle.rules.specs.Monitors.{Input, frequencyAfter, measured}
 use Rattle.rules.specs.Settings.{reject, qualification}
-use Rattle.rules.specs.Selection.{altered}
+use Rattle.rules.specs.Inputs.{altered}
 use Rattle.rules.specs.State.{State}
 use Rattle.rules.specs.Registers.{fresh}
 use Rattle.rules.specs.Refusals.{refusal, accepted}

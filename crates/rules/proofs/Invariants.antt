@@ -15,12 +15,13 @@ use Rattle.rules.specs.Monitors.{unsoaked, freshInput}
 use Rattle.rules.specs.Pll.{Mode, freeRun, holdover, modeNumber, is}
 use Rattle.rules.specs.Settings.{Settings, reject, qualification}
 use Rattle.rules.specs.Week.{weekTicks, Week, freshWeek, advanced, ascending, startsWeek, windowsFit}
-use Rattle.rules.specs.Selection.{Inputs, settled, unselectedMode, unselectedLoop}
+use Rattle.rules.specs.Inputs.{Inputs}
+use Rattle.rules.specs.Selection.{settled, unselectedMode, unselectedLoop}
 use Rattle.rules.specs.Buckets.{bucketFrom, Buckets, startBucket, bucketOf}
 use Rattle.rules.specs.History.{History, freshHistory, held}
 use Rattle.rules.specs.State.{State, selected, Ready}
 use Rattle.rules.specs.Tick.{holdingLimit, holdingAfter, weekAfter, steps1to4, step5, ticked}
-use Rattle.rules.specs.Registers.{place, inMap, registers, register, readOnly, largest, stored, written, freshWith}
+use Rattle.rules.specs.Registers.{slot, inMap, registers, register, readOnly, largest, stored, written, freshWith}
 use Rattle.rules.specs.Refusals.{limitsApart, limitsRefused, commandRefused, writeRefusal, weekRefusal, windowsRefusal, refusal, accepted}
 use Rattle.rules.specs.Run.{afterMeasurement, afterHit, afterWrite, afterCall, afterSet, afterAssign, afterWeek, effect, next, run}
 use Rattle.rules.specs.Loading.{freshFrom, Fresh}
@@ -161,7 +162,7 @@ lawful-hit s r w =
     }
 
 lawful-write : (a v : ℕ) (s : State) → WriteAllowed s a v → Lawful s → Lawful (afterWrite a v s)
-unfolding afterWrite commandRefused largest register registers place
+unfolding afterWrite commandRefused largest register registers slot
 lawful-write a v s ok w =
     record {
       buckets = w .buckets;
@@ -239,9 +240,9 @@ lawful-next s (setBucket n size setLevel clearLevel d) w =
     (λ t. lawful-set n size setLevel clearLevel d s (set-allowed n size setLevel clearLevel d (eqb-true _ 0 t)) w) (λ t. w)
 lawful-next s (assignBucket i n) w =
     if-case Lawful (accepted s (assignBucket i n)) (λ t. lawful-assign i n s (assign-allowed i n (eqb-true _ 0 t)) w) (λ t. w)
-lawful-next s (setWeek place) w =
-    if-case Lawful (accepted s (setWeek place))
-    (λ t. lawful-week _ s (record { place-lt = ltb-true place weekTicks (zero-if (ltb place weekTicks) 15 t); fit = w .week .fit }) w) (λ t. w)
+lawful-next s (setWeek slot) w =
+    if-case Lawful (accepted s (setWeek slot))
+    (λ t. lawful-week _ s (record { place-lt = ltb-true slot weekTicks (zero-if (ltb slot weekTicks) 15 t); fit = w .week .fit }) w) (λ t. w)
 lawful-next s (setWindows windows) w =
     if-case Lawful (accepted s (setWindows windows))
     (λ t. lawful-week _ s (record { place-lt = w .week .place-lt; fit = zero-if (windowsFit windows) 15 t }) w) (λ t. w)

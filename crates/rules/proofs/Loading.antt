@@ -11,7 +11,7 @@ use Rattle.rules.specs.Words.{every}
 use Rattle.rules.specs.Settings.{Settings}
 use Rattle.rules.specs.History.{freshHistory}
 use Rattle.rules.specs.State.{State}
-use Rattle.rules.specs.Registers.{Register, registers, reads, place, inMap, register, largest, stored, settingsFrom, freshWith, freshTable, fresh}
+use Rattle.rules.specs.Registers.{Register, registers, reads, slot, inMap, register, largest, stored, settingsFrom, freshWith, freshTable, fresh}
 use Rattle.rules.specs.Reading.{content, read}
 use Rattle.rules.specs.Refusals.{limitsApart}
 use Rattle.rules.specs.Loading.{most, fits, loads, freshFrom, Fresh}
@@ -46,15 +46,15 @@ module _ (table : List ℕ) (ok : loads table ≡ true) where
   within a m =
       subst (λ b. settingsFrom table b ≤ most (register a)) (map-places a m)
       (leb-true (settingsFrom table (register a .address)) (most (register a))
-      (at-index (fits table) registers (reads a) (and-right (eqb (length table) 27) (every (fits table) registers) first) (place a)
-      (λ past. absurd (omega (arith, ltb-true (place a) 27 m)))))
+      (at-index (fits table) registers (reads a) (and-right (eqb (length table) 27) (every (fits table) registers) first) (slot a)
+      (λ past. absurd (omega (arith, ltb-true (slot a) 27 m)))))
 
   -- and for any address
   largest-loaded : (a : ℕ) → settingsFrom table a ≤ largest a
   unfolding largest inMap settingsFrom
   largest-loaded a =
       by-test (inMap a) (λ m. omega (arith, within a m, most-largest (register a)))
-      (λ m. rw (List·getD-eq-default table 0 {n = place a} (omega (arith, whole-loaded, ltb-false (place a) 27 m))) (omega arith))
+      (λ m. rw (List·getD-eq-default table 0 {n = slot a} (omega (arith, whole-loaded, ltb-false (slot a) 27 m))) (omega arith))
 
   -- the settings of the unit that it makes
   pub sound-loaded : SoundSettings (λ a. stored a (settingsFrom table a))
@@ -68,14 +68,14 @@ module _ (table : List ℕ) (ok : loads table ≡ true) where
 -- ---- the standard fresh unit
 
 standard-stored : (a : ℕ) → stored a (settingsFrom freshTable a) ≡ settingsFrom freshTable a
-unfolding stored settingsFrom freshTable registers place
+unfolding stored settingsFrom freshTable registers slot
 standard-stored a =
     by-test (ltb a 0x24)
     (λ e. eqb-true _ _ (at-below (λ k. eqb (stored k (settingsFrom freshTable k)) (settingsFrom freshTable k)) 0x24 refl a (ltb-true a 0x24 e)))
     (λ e. rw (lt-leb a 0x23 (omega (arith, ltb-false a 0x24 e))) refl)
 
 pub standard : Standard
-unfolding fresh freshFrom loads fits most limitsApart settingsFrom freshTable registers place
+unfolding fresh freshFrom loads fits most limitsApart settingsFrom freshTable registers slot
 standard = record { is-fresh = record { table = freshTable; loaded = refl; made = λ i. freshWith (λ a. standard-stored a i) }; by-column = refl }
 
 -- ---- any fresh unit
@@ -87,7 +87,7 @@ each-fresh P all start f = subst P (f .made) (all (λ a. stored a (settingsFrom 
 
 -- the command is 0
 command-loaded : (table : List ℕ) (a : ℕ) → loads table ≡ true → eqb a 0x26 ≡ true → 0 ≡ stored a (settingsFrom table a)
-unfolding most register registers place inMap
+unfolding most register registers slot inMap
 command-loaded table a ok e =
     subst (λ b. 0 ≡ stored b (settingsFrom table b)) (sym (eqb-true a 0x26 e))
     (omega (arith, stored-le 0x26 (settingsFrom table 0x26), within table ok 0x26 refl))

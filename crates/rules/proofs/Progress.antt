@@ -15,7 +15,8 @@ use Rattle.rules.specs.Monitors.{Bucket, Input, monitored, measured, uns
 use Rattle.rules.specs.Pll.{locked, is, modeNumber, Loop, lockTicks, looped, alarmDue}
 use Rattle.rules.specs.Settings.{Settings, policy, automatic, reject, qualification, priority, usable, revertive, ahead, reversion, opMode}
 use Rattle.rules.specs.Week.{advanced, longest}
-use Rattle.rules.specs.Selection.{Inputs, input, altered, Choice, available, candidate, settled, waitLimit, reselected, chosen, modeAfter, steered}
+use Rattle.rules.specs.Inputs.{Inputs, input, altered}
+use Rattle.rules.specs.Selection.{Choice, available, candidate, settled, waitLimit, reselected, chosen, modeAfter, steered}
 use Rattle.rules.specs.Buckets.{bucketOf}
 use Rattle.rules.specs.History.{History, blockSamples, readyBlocks, refilled, saturated, filling, completed, sampled, withLast, noted, recorded}
 use Rattle.rules.specs.State.{State, selected, mode, Blocked, Ready}
@@ -172,7 +173,7 @@ pub data Phase (q n m left r k : ℕ) (c : Choice) (p : Loop) (h : History) : Ty
   -- r need not be qualified yet
   early : k < q → Phase q n m left r k c p h
   -- r is available; nothing is selected (a Hit), or another is and has waited for r since tick q, for n + 1 ticks at least if it could
-  waits : q ≤ k → InTime q n m left k → (c .selected ≡ 0) ⊎ ((min k (q + n) < c .wait + q) × (c .waitFor ≡ r)) → Phase q n m left r k c p h
+  waits : q ≤ k → InTime q n m left k → (c .selected ≡ 0) ⊎ ((min k (q + n) < c .wait + q) × (c .awaited ≡ r)) → Phase q n m left r k c p h
   -- r is selected
   serves : q ≤ k → c .selected ≡ r → Serving (k - (q + n + m)) p h → Phase q n m left r k c p h
 
@@ -253,7 +254,7 @@ module _ (q n m left left′ r k : ℕ) (blocked : Bool) (c d : Choice) (p : Loo
       one : min (suc k) (q + n) < d .wait + q
       one = omega (arith, w .counts, wait-one blocked n r c)
 
-  phase-waits : q ≤ k → InTime q n m left k → (c .selected ≡ 0) ⊎ ((min k (q + n) < c .wait + q) × (c .waitFor ≡ r)) → (d .selected ≡ r) ⊎ Waits blocked n r c d
+  phase-waits : q ≤ k → InTime q n m left k → (c .selected ≡ 0) ⊎ ((min k (q + n) < c .wait + q) × (c .awaited ≡ r)) → (d .selected ≡ r) ⊎ Waits blocked n r c d
       → Phase q n m left′ r (suc k) d p h
   phase-waits lo hi u (inl t) = serves (omega arith) t (inl (now hi))
     where

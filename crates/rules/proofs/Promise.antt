@@ -12,7 +12,7 @@ use Rattle.rules.specs.Events.{Event}
 use Rattle.rules.specs.Monitors.{Bucket}
 use Rattle.rules.specs.Settings.{delay, reversion}
 use Rattle.rules.specs.Week.{longest}
-use Rattle.rules.specs.Selection.{input}
+use Rattle.rules.specs.Inputs.{input}
 use Rattle.rules.specs.Buckets.{bucketFrom, startBucket, bucketOf}
 use Rattle.rules.specs.History.{readyBlocks, ready}
 use Rattle.rules.specs.State.{State, selected, Ready}

@@ -10,7 +10,7 @@ use lib.Seq.{take-at}
 use borrow.Author.Tests.{ltb-false, eq-eqb, ne-eqb, not-false}
 use Rattle.rules.specs.Events.{Event}
 use Rattle.rules.specs.State.{State}
-use Rattle.rules.specs.Registers.{fresh, registers, place, inMap, register, readOnly}
+use Rattle.rules.specs.Registers.{fresh, registers, slot, inMap, register, readOnly}
 use Rattle.rules.specs.Reading.{qualifiedMask, stateByte, statusByte, shown, content, read}
 use Rattle.rules.specs.Run.{outcome, run}
 use Rattle.rules.specs.Sheet.{Decoded, event, bad, decode, settingsCount, eventsAt, eventsCount, sheetEnd, settingsOf, before, eventsOf, sheetEvents, isEvent, allEvents, recordCount, check, recordOf, records, front, outputAfter}
@@ -37,7 +37,7 @@ length-events (suc k) l e =
 
 -- a record's bytes: the refusal, and what the rules read at 0x48, 0x46 and 0x49
 pub record-is : (n : ℕ) (s : State) → recordOf (record { refusal = n; state = s }) ≡ n ∷ stateByte s ∷ qualifiedMask s ∷ statusByte s ∷ []
-unfolding recordOf read content shown registers place inMap register readOnly
+unfolding recordOf read content shown registers slot inMap register readOnly
 record-is n s = refl
 
 pub records-append : (s : State) (xs ys : List Event) → records s (xs ++ ys) ≡ records s xs ++ records (run s xs) ys

@@ -8,7 +8,7 @@ use borrow.Author.Tests.{eqb-true, eqb-false}
 use Rattle.rules.specs.Words.{if_then_else_, bitOf, isInput, isTracked}
 use Rattle.rules.specs.Monitors.{Bucket, Input, monitored, atSize, lockAlarmed}
 use Rattle.rules.specs.Pll.{alarmDue}
-use Rattle.rules.specs.Selection.{Inputs, input, altered}
+use Rattle.rules.specs.Inputs.{Inputs, input, altered}
 use Rattle.rules.specs.Buckets.{Buckets, setAt, setOf, bucketOf, withSet, withAssigned, putAtSize, having}
 use Rattle.rules.specs.State.{State, selected}
 use Rattle.rules.specs.Tick.{watched, watchedAfter, loopAfter, inputsAfter}

@@ -10,10 +10,11 @@ use Rattle.rules.specs.Words.{isTracked}
 use Rattle.rules.specs.Monitors.{qualified, lockAlarmed}
 use Rattle.rules.specs.Pll.{Mode, freeRun, locked, modeNumber, is, unlocked, Loop, lockTicks, unlockTicks, looped, alarmDue}
 use Rattle.rules.specs.Settings.{Settings, automatic, opMode, delayTicks, reversion}
-use Rattle.rules.specs.Selection.{Inputs, input, Choice, candidate, best, settled, waitLimit, waitAfter, chosen, unselectedMode, modeAfter, steered}
+use Rattle.rules.specs.Inputs.{Inputs, input}
+use Rattle.rules.specs.Selection.{Choice, candidate, best, settled, waitLimit, waitAfter, chosen, unselectedMode, modeAfter, steered}
 use Rattle.rules.specs.State.{State, selected, mode, Blocked, Ready}
 use Rattle.rules.specs.Tick.{watchedAfter, loopAfter, inputsAfter}
-use Rattle.rules.specs.Registers.{place, registers, register, largest}
+use Rattle.rules.specs.Registers.{slot, registers, register, largest}
 use Rattle.rules.specs.Run.{next}
 use Rattle.rules.specs.Laws.{SoundBuckets, Selectable, SoundInputs, SoundSettings, SoundLoop, Lawful}
 use Rattle.rules.proofs.Tests.{if-case, by-test, clash, or-true, low, high, is-between}
@@ -30,14 +31,14 @@ delay-bound m h = omega arith
 
 -- the delay is a byte
 delay-byte : (set : Settings) → SoundSettings set → set 0x43 ≤ 255
-unfolding largest register registers place
+unfolding largest register registers slot
 delay-byte set w = w .largest-le 0x43
 
 pub record SoundChoice (c : Choice) : Type 0 where
   pub selected-le : c .selected ≤ 9
   pub wait-lt : c .wait < waitLimit
   pub unselected : c .selected ≡ 0 → c .wait ≡ 0
-  pub unwaited : c .wait ≡ 0 → c .waitFor ≡ 0
+  pub unwaited : c .wait ≡ 0 → c .awaited ≡ 0
 
 sound-settled : (x : ℕ) → x ≤ 9 → SoundChoice (settled x)
 unfolding settled

@@ -8,7 +8,7 @@ use lib.Dec.{leb, ltb, eqb}
 use lib.ListN.{length, getD}
 use borrow.Author.Tests.{leb-true, lt-leb, ltb-true, ltb-false, eqb-true}
 use Rattle.rules.specs.Words.{every}
-use Rattle.rules.specs.Registers.{Register, registers, reads, place, inMap, register, largest}
+use Rattle.rules.specs.Registers.{Register, registers, reads, slot, inMap, register, largest}
 use Rattle.rules.specs.Laws.{Map}
 use Rattle.rules.proofs.Tests.{by-test, clash, and-false}
 
@@ -37,14 +37,14 @@ at-below test (suc n) e (suc k) h =
 
 -- ---- the map of registers
 
--- no address past the last has a place
+-- no address past the last has a slot
 past-map : (a : ℕ) → 0x4f ≤ a → inMap a ≡ false
-unfolding inMap place
+unfolding inMap slot
 past-map a h = rw (lt-leb a 0x27 (omega arith), lt-leb a 0x4e (omega arith), and-false (leb 0x1c a), and-false (leb 0x40 a)) refl
 
--- each address of the map is that of the row at its place
+-- each address of the map is that of the row at its slot
 pub map-places : Map
-unfolding register place registers
+unfolding register slot registers
 map-places a m =
     by-test (ltb a 0x4f)
     (λ e. eqb-true (register a .address) a (at-below (λ k. eqb (register k .address) k) 0x4f refl a (ltb-true a 0x4f e)))
@@ -53,4 +53,4 @@ map-places a m =
 -- Largest is a byte
 pub largest-byte : (a : ℕ) → largest a ≤ 255
 unfolding largest register registers
-largest-byte a = leb-true (register a .largest) 255 (at-index (λ (r : Register). leb (r .largest) 255) registers (reads a) refl (place a) (λ past. refl))
+largest-byte a = leb-true (register a .largest) 255 (at-index (λ (r : Register). leb (r .largest) 255) registers (reads a) refl (slot a) (λ past. refl))

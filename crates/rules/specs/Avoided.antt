@@ -12,11 +12,12 @@ use Rattle.rules.specs.Monitors.{Activity, Input, measured, fullSoak, fr
 use Rattle.rules.specs.Pll.{holdover, preLocked}
 use Rattle.rules.specs.Settings.{Settings}
 use Rattle.rules.specs.Week.{Window, advanced}
-use Rattle.rules.specs.Selection.{Inputs, input, Choice, settled, chosen, waitAfter, switches}
+use Rattle.rules.specs.Inputs.{Inputs, input}
+use Rattle.rules.specs.Selection.{Choice, settled, chosen, waitAfter, switches}
 use Rattle.rules.specs.History.{History, ready, withBlocks, completed, noted, value, replaced, commanded, freshHistory}
 use Rattle.rules.specs.State.{State, selected}
 use Rattle.rules.specs.Tick.{holdingAfter}
-use Rattle.rules.specs.Registers.{place, written, freshTable, fresh}
+use Rattle.rules.specs.Registers.{slot, written, freshTable, fresh}
 use Rattle.rules.specs.Reading.{stateByte, read}
 use Rattle.rules.specs.Refusals.{refusal}
 use Rattle.rules.specs.Run.{withInputs, next, run}
@@ -42,7 +43,7 @@ setting delay first second = written 0x43 delay (written 0x1c first (written 0x1
 
 -- three ticks waited for 2
 abbrev waiting : Choice
-waiting = record { selected = 3; wait = 3; waitFor = 2 }
+waiting = record { selected = 3; wait = 3; awaited = 2 }
 
 -- a fresh unit with these inputs and settings
 abbrev unit : Settings → Inputs → State
@@ -80,7 +81,7 @@ soakOver size = input (run (unit (setting 0 0 0) (clocks true true true)) (setBu
 
 -- the standard table with another value for one register
 abbrev tableWith : ℕ → ℕ → List ℕ
-tableWith a v = set freshTable (place a) v
+tableWith a v = set freshTable (slot a) v
 
 -- input 1's frequency alarm after an event, the limits being 31 and 25, where it was set, and where it was clear
 abbrev wasSet : Event → Bool
@@ -99,8 +100,8 @@ windowsOf count = take count (map (λ k. window (2 * k) (2 * k + 1)) (0 ∷ 1 �
 
 -- 2 is selected and revertive, 1 is better, and there is no delay: what is selected after a tick at this place, with a window of the places 4 and 5
 abbrev afterTick : ℕ → ℕ
-afterTick place =
-    let start = run (unit (setting 0 0 0b1000) (clocks false true false)) (tick 0 false (pos 0) ∷ setWindows (window 4 6 ∷ []) ∷ setWeek place ∷ []) in
+afterTick slot =
+    let start = run (unit (setting 0 0 0b1000) (clocks false true false)) (tick 0 false (pos 0) ∷ setWindows (window 4 6 ∷ []) ∷ setWeek slot ∷ []) in
     selected (next (withInputs (clocks true true false) start) (tick 0 false (pos 0)))
 
 -- ---- the table
@@ -253,7 +254,7 @@ readings =
 
 unfoldable pub hours : List Row
 hours =
-    -- a place past the week's end, nine windows, an empty one, or one past the week's end let through; those at the bounds refused
+    -- a slot past the week's end, nine windows, an empty one, or one past the week's end let through; those at the bounds refused
     refusal fresh (setWeek 4_725_000) is 16
     ∷ refusal fresh (setWeek 4_724_999) is 0
     ∷ refusal fresh (setWindows (windowsOf 9)) is 16
@@ -273,15 +274,15 @@ hours =
     ∷ refusal fresh (setWindows (window 0 1 ∷ window 4_724_998 4_724_999 ∷ [])) is 0
     ∷ refusal fresh (setWindows (window 1 2 ∷ window 4_724_999 4_725_000 ∷ [])) is 0
     -- a call that changes the other's part; one that is turned down and stores
-    ∷ run fresh (setWindows (window 1 2 ∷ []) ∷ setWeek 7 ∷ []) .week is record { place = 7; windows = window 1 2 ∷ [] }
-    ∷ run fresh (setWeek 7 ∷ setWindows (window 1 2 ∷ []) ∷ []) .week is record { place = 7; windows = window 1 2 ∷ [] }
-    ∷ run fresh (setWeek 7 ∷ setWeek 4_725_000 ∷ setWindows (window 2 2 ∷ []) ∷ []) .week is record { place = 7; windows = [] }
-    -- a place that goes past the week's end, or returns too early; a refused tick that advances it, or a write; a tick that does not, or a Hit that does
+    ∷ run fresh (setWindows (window 1 2 ∷ []) ∷ setWeek 7 ∷ []) .week is record { slot = 7; windows = window 1 2 ∷ [] }
+    ∷ run fresh (setWeek 7 ∷ setWindows (window 1 2 ∷ []) ∷ []) .week is record { slot = 7; windows = window 1 2 ∷ [] }
+    ∷ run fresh (setWeek 7 ∷ setWeek 4_725_000 ∷ setWindows (window 2 2 ∷ []) ∷ []) .week is record { slot = 7; windows = [] }
+    -- a slot that goes past the week's end, or returns too early; a refused tick that advances it, or a write; a tick that does not, or a Hit that does
     ∷ advanced 4_724_999 is 0
     ∷ advanced 4_724_998 is 4_724_999
     ∷ run fresh (tick 0 false (pos 125_000_001) ∷ write 0x40 1 ∷ []) .week .place is 0
     ∷ run (unit (setting 0 0 0) (clocks true false false)) (tick 0 false (pos 0) ∷ hit ∷ []) .week .place is 1
-    -- a start that lets through, an end that blocks; a place that advances before the selection
+    -- a start that lets through, an end that blocks; a slot that advances before the selection
     ∷ afterTick 4 is 2
     ∷ afterTick 5 is 2
     ∷ afterTick 3 is 1

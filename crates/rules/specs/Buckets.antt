@@ -6,7 +6,7 @@ use lib.Dec.{leb, ltb, eqb}
 use lib.ListN.{getD, set, replicate}
 use Rattle.rules.specs.Words.{if_then_else_}
 use Rattle.rules.specs.Monitors.{Bucket, atSize}
-use Rattle.rules.specs.Selection.{Inputs, eachFrom}
+use Rattle.rules.specs.Inputs.{Inputs, eachFrom}
 
 -- "size S, set level U, clear level L, decay of 2^d ticks"
 unfoldable pub bucketFrom : ℕ → ℕ → ℕ → ℕ → Bucket

@@ -6,7 +6,8 @@ use mathlib.Core.Bool.{Bool, true, false}
 use mathlib.Core.List.{List}
 use Rattle.rules.specs.Settings.{Settings, automatic, revertive, reversion}
 use Rattle.rules.specs.Week.{Window, busy, advanced, longest, windowsFit}
-use Rattle.rules.specs.Selection.{Inputs, Choice, candidate, best, settled, waitLimit, waitAfter, reverted, chosen}
+use Rattle.rules.specs.Inputs.{Inputs}
+use Rattle.rules.specs.Selection.{Choice, candidate, best, settled, waitLimit, waitAfter, reverted, chosen}
 
 -- ---- a window blocks the switch of a reversion, and nothing else
 
@@ -29,7 +30,7 @@ pub record Kept (set : Settings) (inputs : Inputs) (c : Choice) : Type 0 where
   pub reverts : revertive set (c .selected) ≡ true
   pub free : chosen false set inputs c ≡ settled (best set inputs)
   pub over : reversion set < chosen true set inputs c .wait
-  pub for : chosen true set inputs c .waitFor ≡ best set inputs
+  pub for : chosen true set inputs c .awaited ≡ best set inputs
 
 -- a tick in a window chooses as it would outside, or is such a reversion
 abbrev pub OnlyReversions : Type 0
@@ -40,9 +41,9 @@ OnlyReversions = (set : Settings) (inputs : Inputs) (c : Choice) → (chosen tru
 pub record WaitInWindow : Type 0 where
   -- "rises only if it is below n + 1": as outside while it is, and then it rests
   pub rises : (n b : ℕ) (c : Choice) → c .wait ≤ n → waitAfter true n b c ≡ waitAfter false n b c
-  pub rests : (n b : ℕ) (c : Choice) → n < c .wait → c .wait ≤ waitLimit → c .waitFor ≡ b → waitAfter true n b c ≡ c .wait
+  pub rests : (n b : ℕ) (c : Choice) → n < c .wait → c .wait ≤ waitLimit → c .awaited ≡ b → waitAfter true n b c ≡ c .wait
   -- a wait that is over switches in the first tick outside
-  pub ends : (n b : ℕ) (c : Choice) → n < c .wait → c .wait < waitLimit → c .waitFor ≡ b → reverted false n b c ≡ settled b
+  pub ends : (n b : ℕ) (c : Choice) → n < c .wait → c .wait < waitLimit → c .awaited ≡ b → reverted false n b c ≡ settled b
 
 -- ---- a run of blocked ticks
 

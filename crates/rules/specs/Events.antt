@@ -5,9 +5,15 @@ use mathlib.Core.List.{List}
 use lib.IntN.{ℤ, pos, _*ℤ_}
 use Rattle.rules.specs.Week.{Window}
 
+-- "Tick (irregular mask, bit i−1 for input i; lock flag; frequency sample in parts per 10^12"
+pub record Tick : Type 0 where
+  pub mask : ℕ
+  pub lock : Bool
+  pub sample : ℤ
+
 pub data Event : Type 0 where
-  -- "Tick (irregular mask, bit i−1 for input i; lock flag; frequency sample in parts per 10^12"
-  tick : ℕ → Bool → ℤ → Event
+  -- "Tick"
+  tick : Tick → Event
   -- "Measurement (input 1 to 8; ..": the input, and the offset, of #106 "a 16-bit signed number" in steps of 1/64 ppm; here any whole number
   measurement : ℕ → ℤ → Event
   -- "Hit"
@@ -23,6 +29,10 @@ pub data Event : Type 0 where
   -- #107, "setting .. the windows": all of them
   setWindows : List Window → Event
 
+-- a tick, by its mask, its lock flag and its sample
+abbrev pub tickWith : ℕ → Bool → ℤ → Event
+tickWith mask lock sample = tick (record { mask = mask; lock = lock; sample = sample })
+
 -- #106: "The new counter resolves 1/64 ppm." 0.5 ppm, in which the limits and the offsets of the old kind are, is so many of its steps.
 abbrev pub halfPpm : ℕ
 halfPpm = 32
@@ -36,7 +46,7 @@ abbrev pub sampleLimit : ℕ
 sampleLimit = 125_000_000
 
 abbrev pub isTick : Event → Bool
-isTick (tick mask lock x) = true
+isTick (tick t) = true
 isTick (measurement i offset) = false
 isTick hit = false
 isTick (write a v) = false
@@ -47,7 +57,7 @@ isTick (setWindows windows) = false
 
 -- a call of the host's, which no run sheet can hold
 abbrev pub isCall : Event → Bool
-isCall (tick mask lock x) = false
+isCall (tick t) = false
 isCall (measurement i offset) = false
 isCall hit = false
 isCall (write a v) = false

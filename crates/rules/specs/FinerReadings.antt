@@ -18,7 +18,7 @@ use Rattle.rules.specs.Service.{Fair}
 
 -- what an event before the request, its offset in 0.5 ppm, is now: "A measurement of the old kind means 32 times its byte"
 abbrev pub finer : Event → Event
-finer (tick mask lock x) = tick mask lock x
+finer (tick t) = tick t
 finer (measurement i offset) = oldKind i offset
 finer hit = hit
 finer (write a v) = write a v

@@ -14,7 +14,8 @@ use Rattle.rules.specs.Monitors.{Bucket, Input, fullSoak, qualified, ala
 use Rattle.rules.specs.Pll.{modeNumber, holdover, is, Loop, lockTicks, unlockTicks}
 use Rattle.rules.specs.Settings.{Settings, automatic, reject, qualification, usable, revertive, ahead, delayTicks}
 use Rattle.rules.specs.Week.{weekTicks, Week, windowsFit}
-use Rattle.rules.specs.Selection.{Inputs, input, Choice, available, candidate, best, settled, waitLimit, waitAfter, reverted, chosen}
+use Rattle.rules.specs.Inputs.{Inputs, input}
+use Rattle.rules.specs.Selection.{Choice, available, candidate, best, settled, waitLimit, waitAfter, reverted, chosen}
 use Rattle.rules.specs.Buckets.{Buckets, freshBuckets, setAt, setOf, bucketOf}
 use Rattle.rules.specs.History.{History, blockSamples, keptBlocks, readyBlocks, sumLimit, saturated, sumOf, value}
 use Rattle.rules.specs.State.{State, selected, mode, Ready}
@@ -67,7 +68,7 @@ pub record SoundLoop (p : Loop) (c : Choice) : Type 0 where
   pub selected-le : c .selected ≤ 9
   pub wait-lt : c .wait < waitLimit
   pub unselected : c .selected ≡ 0 → c .wait ≡ 0
-  pub unwaited : c .wait ≡ 0 → c .waitFor ≡ 0
+  pub unwaited : c .wait ≡ 0 → c .awaited ≡ 0
   pub tracking : isTracked (c .selected) ≡ true → 2 ≤ modeNumber (p .mode)
   pub resting : isTracked (c .selected) ≡ false → modeNumber (p .mode) ≤ 1
 
@@ -143,7 +144,7 @@ heldTicks n s (e ∷ es) = heldTicks (heldAfter n s e) (next s e) es
 abbrev pub Hours : Type 0
 Hours =
     (start : State) → Fresh start → (es : List Event)
-    → hours (run start es) ≡ (if is holdover (mode (run start es)) then min 255 (heldTicks 0 start es / hourTicks) else 0)
+    → hours (mode (run start es)) (run start es .holding) ≡ (if is holdover (mode (run start es)) then min 255 (heldTicks 0 start es / hourTicks) else 0)
 
 -- ---- selection
 
@@ -186,7 +187,7 @@ NonRevertive =
 
 -- a wait starts anew for another best, and ends with the switch not before its n ticks are over, and outside a window
 pub record WaitRule : Type 0 where
-  pub anew : (blocked : Bool) (n b : ℕ) (c : Choice) → (c .waitFor ≡ b → ⊥) → waitAfter blocked n b c ≡ 1
+  pub anew : (blocked : Bool) (n b : ℕ) (c : Choice) → (c .awaited ≡ b → ⊥) → waitAfter blocked n b c ≡ 1
   pub full : (blocked : Bool) (n b : ℕ) (c : Choice) → (c .selected ≡ b → ⊥) → reverted blocked n b c .selected ≡ b
       → (n < waitAfter blocked n b c) × (blocked ≡ false)
 

@@ -6,6 +6,7 @@
 pub mod Words
 pub mod Events
 pub mod Monitors
+pub mod Inputs
 pub mod Pll
 pub mod Settings
 pub mod Week

@@ -11,7 +11,7 @@ use Rattle.rules.specs.Events.{Event, tick, measurement, hit, write, set
 use Rattle.rules.specs.Pll.{locked, is}
 use Rattle.rules.specs.Settings.{policy}
 use Rattle.rules.specs.History.{History, blockSamples, keptBlocks, refilled, withBlocks, openEmptied, saturated, withLast, backedUp, withCommand}
-use Rattle.rules.specs.State.{State, selected, mode}
+use Rattle.rules.specs.State.{State, selected, mode, withHistory}
 use Rattle.rules.specs.Tick.{steps1to4}
 use Rattle.rules.specs.Refusals.{accepted}
 use Rattle.rules.specs.Run.{effect}
@@ -51,25 +51,11 @@ oldCommanded c h =
 
 -- ---- the run of a list
 
--- the state with another history
-unfoldable pub withHistory : History → State → State
-withHistory h s =
-    record {
-      inputs = s .inputs;
-      buckets = s .buckets;
-      settings = s .settings;
-      loop = s .loop;
-      choice = s .choice;
-      history = h;
-      holding = s .holding;
-      week = s .week;
-    }
-
 -- what an accepted event leaves: what the rules have it leave, but for the history after a tick's step 5 and after a command
 unfoldable pub oldEffect : State → Event → State
-oldEffect s (tick mask lock x) =
-    let t = steps1to4 mask lock s in
-    withHistory (oldRecorded (policy (t .settings)) (selected t) (is locked (mode t)) x (t .history)) t
+oldEffect s (tick t) =
+    let u = steps1to4 t s in
+    withHistory (oldRecorded (policy (u .settings)) (selected u) (is locked (mode u)) (t .sample) (u .history)) u
 oldEffect s (measurement i offset) = effect s (measurement i offset)
 oldEffect s hit = effect s hit
 oldEffect s (setBucket n size setLevel clearLevel d) = effect s (setBucket n size setLevel clearLevel d)

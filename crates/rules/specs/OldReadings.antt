@@ -11,18 +11,18 @@ use Rattle.rules.specs.Words.{if_then_else_}
 use Rattle.rules.specs.Events.{Event, tick, measurement, hit, write, setBucket, assignBucket, setWeek, setWindows}
 use Rattle.rules.specs.Monitors.{measured}
 use Rattle.rules.specs.Settings.{reject, qualification}
-use Rattle.rules.specs.Selection.{altered}
-use Rattle.rules.specs.State.{State}
+use Rattle.rules.specs.Inputs.{altered}
+use Rattle.rules.specs.State.{State, withInputs}
 use Rattle.rules.specs.Registers.{fresh}
 use Rattle.rules.specs.Refusals.{refusal, accepted}
-use Rattle.rules.specs.Run.{withInputs, effect, Outcome}
+use Rattle.rules.specs.Run.{effect, Outcome}
 use Rattle.rules.specs.Sheet.{signedByte, Decoded, event, bad, isZero, fields, decodeBy, settingsCount, eventsAt, eventsCount, settingsOf, before, isEvent, checkBy, recordOf}
 
 -- ---- the run of a list, whose offsets are in 0.5 ppm
 
 -- what an accepted event leaves: "A measurement's magnitude above the reject limit sets the frequency alarm", the limit being what the register holds
 unfoldable pub coarseEffect : State → Event → State
-coarseEffect s (tick mask lock x) = effect s (tick mask lock x)
+coarseEffect s (tick t) = effect s (tick t)
 coarseEffect s (measurement i offset) = withInputs (altered (measured (reject (s .settings)) (qualification (s .settings)) offset) i (s .inputs)) s
 coarseEffect s hit = effect s hit
 coarseEffect s (write a v) = effect s (write a v)

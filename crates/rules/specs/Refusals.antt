@@ -53,7 +53,7 @@ windowsRefusal windows = if windowsFit windows then 0 else 16
 
 -- 5: "Hit with no reference 1 to 8 selected"; 6: "input not 1 to 8"; 7: "sample out of range"; 0 where the event is accepted
 unfoldable pub refusal : State → Event → ℕ
-refusal s (tick mask lock x) = if leb (natAbs x) sampleLimit then 0 else 7
+refusal s (tick t) = if leb (natAbs (t .sample)) sampleLimit then 0 else 7
 refusal s (measurement i offset) = if isInput i then 0 else 6
 refusal s hit = if isTracked (selected s) then 0 else 5
 refusal s (write a v) = writeRefusal (s .settings) (Ready s) (held (s .history .backup)) a v

@@ -67,15 +67,15 @@ registers =
     ∷ reads 0x4e
     ∷ []
 
--- the place of an address in the map, 0 to 26; 27 for an address that is not in it
-unfoldable pub place : ℕ → ℕ
-place a = if between 0x1c 0x27 a then a - 0x1c else (if between 0x40 0x4e a then a - 0x34 else 27)
+-- the slot of an address in the map, 0 to 26; 27 for an address that is not in it
+unfoldable pub slot : ℕ → ℕ
+slot a = if between 0x1c 0x27 a then a - 0x1c else (if between 0x40 0x4e a then a - 0x34 else 27)
 
 unfoldable pub inMap : ℕ → Bool
-inMap a = ltb (place a) 27
+inMap a = ltb (slot a) 27
 
 unfoldable pub register : ℕ → Register
-register a = getD registers (place a) (reads a)
+register a = getD registers (slot a) (reads a)
 
 unfoldable pub readOnly : ℕ → Bool
 readOnly a = register a .readOnly
@@ -95,7 +95,7 @@ written a v set b = if eqb b a then stored a v else set b
 
 -- a value for each register, in address order, as settings by address
 unfoldable pub settingsFrom : List ℕ → Settings
-settingsFrom table a = getD table (place a) 0
+settingsFrom table a = getD table (slot a) 0
 
 -- with these settings: "Fresh: all counts 0, activity alarms clear, frequency alarms set, selected 0, Free Run."
 unfoldable pub freshWith : Settings → State

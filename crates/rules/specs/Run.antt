@@ -7,28 +7,14 @@ use Rattle.rules.specs.Words.{if_then_else_}
 use Rattle.rules.specs.Events.{Event, tick, measurement, hit, write, setBucket, assignBucket, setWeek, setWindows, halfPpm}
 use Rattle.rules.specs.Monitors.{Bucket, measured, unsoaked}
 use Rattle.rules.specs.Settings.{reject, qualification}
-use Rattle.rules.specs.Week.{Week}
-use Rattle.rules.specs.Selection.{Inputs, altered, settled, unselectedLoop}
-use Rattle.rules.specs.Buckets.{Buckets, bucketFrom, setAt, withSet, withAssigned, putAtSize, having}
+use Rattle.rules.specs.Inputs.{altered}
+use Rattle.rules.specs.Selection.{settled, unselectedLoop}
+use Rattle.rules.specs.Buckets.{bucketFrom, setAt, withSet, withAssigned, putAtSize, having}
 use Rattle.rules.specs.History.{openEmptied, commanded}
-use Rattle.rules.specs.State.{State, selected, Ready}
+use Rattle.rules.specs.State.{State, selected, Ready, withInputs, withBuckets, withSettings, withLoop, withChoice, withHistory, withHolding, withWeek}
 use Rattle.rules.specs.Tick.{ticked}
 use Rattle.rules.specs.Registers.{written}
 use Rattle.rules.specs.Refusals.{refusal, accepted}
-
--- the state with other inputs
-abbrev pub withInputs : Inputs → State → State
-withInputs inputs s =
-    record {
-      inputs = inputs;
-      buckets = s .buckets;
-      settings = s .settings;
-      loop = s .loop;
-      choice = s .choice;
-      history = s .history;
-      holding = s .holding;
-      week = s .week;
-    }
 
 -- a measurement, on one input. #106: "the limits are compared as 32 times theirs"
 unfoldable pub afterMeasurement : ℕ → ℤ → State → State
@@ -38,75 +24,30 @@ afterMeasurement i offset s =
 -- "Hit: the selected reference's soak becomes 0, selected 0, wait and runs 0, the open block empties, state Holdover or Free Run by Ready."
 unfoldable pub afterHit : State → State
 afterHit s =
-    record {
-      inputs = altered unsoaked (selected s) (s .inputs);
-      buckets = s .buckets;
-      settings = s .settings;
-      loop = unselectedLoop (Ready s);
-      choice = settled 0;
-      history = openEmptied (s .history);
-      holding = 0;
-      week = s .week;
-    }
+    withInputs (altered unsoaked (selected s) (s .inputs))
+    (withLoop (unselectedLoop (Ready s)) (withChoice (settled 0) (withHistory (openEmptied (s .history)) (withHolding 0 s))))
 
 -- A write of 0x26 is a command to the history; any other is a setting. "Commands do not change the state before the next tick."
 unfoldable pub afterWrite : ℕ → ℕ → State → State
-afterWrite a v s =
-    record {
-      inputs = s .inputs;
-      buckets = s .buckets;
-      settings = if eqb a 0x26 then s .settings else written a v (s .settings);
-      loop = s .loop;
-      choice = s .choice;
-      history = if eqb a 0x26 then commanded v (s .history) else s .history;
-      holding = s .holding;
-      week = s .week;
-    }
+afterWrite a v s = if eqb a 0x26 then withHistory (commanded v (s .history)) s else withSettings (written a v (s .settings)) s
 
--- the state with other sets or assignments, and the inputs that they concern put at their size
-unfoldable pub afterCall : Buckets → Inputs → State → State
-afterCall buckets inputs s =
-    record {
-      inputs = inputs;
-      buckets = buckets;
-      settings = s .settings;
-      loop = s .loop;
-      choice = s .choice;
-      history = s .history;
-      holding = s .holding;
-      week = s .week;
-    }
-
+-- the inputs that a call concerns are put at their size
 unfoldable pub afterSet : ℕ → Bucket → State → State
-afterSet n b s = afterCall (withSet n b (s .buckets)) (putAtSize (having (s .buckets) n) (b .size) (s .inputs)) s
+afterSet n b s = withBuckets (withSet n b (s .buckets)) (withInputs (putAtSize (having (s .buckets) n) (b .size) (s .inputs)) s)
 
 unfoldable pub afterAssign : ℕ → ℕ → State → State
-afterAssign i n s = afterCall (withAssigned i n (s .buckets)) (putAtSize (eqb i) (setAt (s .buckets) n .size) (s .inputs)) s
-
--- the state with another week
-unfoldable pub afterWeek : Week → State → State
-afterWeek week s =
-    record {
-      inputs = s .inputs;
-      buckets = s .buckets;
-      settings = s .settings;
-      loop = s .loop;
-      choice = s .choice;
-      history = s .history;
-      holding = s .holding;
-      week = week;
-    }
+afterAssign i n s = withBuckets (withAssigned i n (s .buckets)) (withInputs (putAtSize (eqb i) (setAt (s .buckets) n .size) (s .inputs)) s)
 
 -- what an accepted event leaves
 unfoldable pub effect : State → Event → State
-effect s (tick mask lock x) = ticked mask lock x s
+effect s (tick t) = ticked t s
 effect s (measurement i offset) = afterMeasurement i offset s
 effect s hit = afterHit s
 effect s (write a v) = afterWrite a v s
 effect s (setBucket n size setLevel clearLevel d) = afterSet n (bucketFrom size setLevel clearLevel d) s
 effect s (assignBucket i n) = afterAssign i n s
-effect s (setWeek place) = afterWeek (record { place = place; windows = s .week .windows }) s
-effect s (setWindows windows) = afterWeek (record { place = s .week .place; windows = windows }) s
+effect s (setWeek place) = withWeek (record { place = place; windows = s .week .windows }) s
+effect s (setWindows windows) = withWeek (record { place = s .week .place; windows = windows }) s
 
 -- what any event leaves: one that is turned down leaves the state "as before"
 unfoldable pub next : State → Event → State

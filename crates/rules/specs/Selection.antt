@@ -2,32 +2,14 @@
 -- choice.
 use Prim.Native.Nat.{ℕ, zero, suc, _+_, _-_, min}
 use mathlib.Core.Bool.{Bool, not, _&&_, _||_}
-use mathlib.Core.List.{List, [], _∷_}
 use lib.Dec.{leb, eqb}
-use lib.ListN.{getD, set}
 use Rattle.rules.specs.Words.{if_then_else_, isInput}
-use Rattle.rules.specs.Monitors.{Input, freshInput, qualified}
+use Rattle.rules.specs.Monitors.{qualified}
+use Rattle.rules.specs.Inputs.{Inputs, input}
 use Rattle.rules.specs.Pll.{Mode, freeRun, holdover, preLocked, preLocked2, is, Loop}
 use Rattle.rules.specs.Settings.{Settings, automatic, opMode, usable, revertive, ahead, reversion}
 
--- ---- the eight inputs
-
--- input 1 first
-abbrev pub Inputs : Type 0
-Inputs = List Input
-
--- one of them, by its number
-abbrev pub input : Inputs → ℕ → Input
-input inputs i = getD inputs (i - 1) freshInput
-
--- one of them altered
-unfoldable pub altered : (Input → Input) → ℕ → Inputs → Inputs
-altered f i inputs = set inputs (i - 1) (f (input inputs i))
-
--- each altered, by its number; the first has number k
-unfoldable pub eachFrom : (ℕ → Input → Input) → ℕ → Inputs → Inputs
-eachFrom f k [] = []
-eachFrom f k (i ∷ is) = f k i ∷ eachFrom f (k + 1) is
+-- ---- available
 
 -- "available means qualified and unmasked"
 unfoldable pub available : Settings → Inputs → ℕ → Bool
@@ -40,7 +22,7 @@ pub record Choice : Type 0 where
   pub selected : ℕ
   -- the wait, and the best that it counts for; that is 0 while the wait is 0
   pub wait : ℕ
-  pub waitFor : ℕ
+  pub awaited : ℕ
 
 -- "candidates are the available references ..; Free Run, if enabled"
 unfoldable pub candidate : Settings → Inputs → ℕ → Bool
@@ -59,7 +41,7 @@ best set inputs = bestUpTo set inputs 9
 
 -- selected, with the wait at 0: "Any change of selection zeroes the wait."
 unfoldable pub settled : ℕ → Choice
-settled c = record { selected = c; wait = 0; waitFor = 0 }
+settled c = record { selected = c; wait = 0; awaited = 0 }
 
 -- two ticks more than the longest delay, 255 minutes: the wait stops here, and from fresh it never comes so far (`Saturation` in Laws)
 abbrev pub waitLimit : ℕ
@@ -69,7 +51,7 @@ waitLimit = 119_534
 -- window. #107: "meanwhile the wait rises only if it is below n + 1"
 unfoldable pub waitAfter : Bool → ℕ → ℕ → Choice → ℕ
 waitAfter blocked n b c =
-    if eqb (c .wait) 0 || not (eqb (c .waitFor) b) then 1
+    if eqb (c .wait) 0 || not (eqb (c .awaited) b) then 1
     else min waitLimit (if blocked && leb (n + 1) (c .wait) then c .wait else c .wait + 1)
 
 -- "the switch comes when wait − 1 is n or more"
@@ -80,7 +62,7 @@ switches n wait = leb n (wait - 1)
 unfoldable pub reverted : Bool → ℕ → ℕ → Choice → Choice
 reverted blocked n b c =
     if not blocked && switches n (waitAfter blocked n b c) then settled b
-    else record { selected = c .selected; wait = waitAfter blocked n b c; waitFor = b }
+    else record { selected = c .selected; wait = waitAfter blocked n b c; awaited = b }
 
 -- "If the selected one is no candidate, the best is taken, or 0. If it is best, it stays and the wait is 0. If it is not best and non-revertive, it stays
 -- and the wait is 0. If revertive, the wait rises ..". The bit that counts is the selected one's, not the best's; a best of equal priority is waited for too.

@@ -10,7 +10,7 @@ use Rattle.rules.specs.Monitors.{Bucket, fullSoak, alarmTicks}
 use Rattle.rules.specs.Pll.{lockTicks}
 use Rattle.rules.specs.Settings.{qualification, delay, reversion}
 use Rattle.rules.specs.Week.{longest}
-use Rattle.rules.specs.Selection.{input}
+use Rattle.rules.specs.Inputs.{input}
 use Rattle.rules.specs.Buckets.{bucketFrom, startBucket, bucketOf}
 use Rattle.rules.specs.History.{blockSamples, readyBlocks}
 use Rattle.rules.specs.State.{State, selected, Ready}
@@ -32,7 +32,7 @@ TurnedDown s e = accepted s e ≡ false
 -- the week or the windows is then a write". "Anything may stand in the other mask bits, the other inputs' measurements and the samples, and, while r is not
 -- selected, in the lock flags; Hits may come then."
 abbrev pub Fair : ℕ → State → Event → Type 0
-Fair r s (tick mask lock x) = accepted s (tick mask lock x) ≡ true → (bitOf mask r ≡ false) × (selected s ≡ r → lock ≡ true)
+Fair r s (tick t) = accepted s (tick t) ≡ true → (bitOf (t .mask) r ≡ false) × (selected s ≡ r → t .lock ≡ true)
 Fair r s (measurement i offset) = i ≡ r → natAbs offset ≤ halfPpm * qualification (s .settings)
 Fair r s hit = selected s ≡ r → ⊥
 Fair r s (write a v) = TurnedDown s (write a v)

@@ -7,7 +7,7 @@ use lib.Dec.{leb, ltb, eqb}
 use lib.IntN.{ℤ, pos, negsuc, natAbs}
 use lib.ListN.{length, getD, drop}
 use Rattle.rules.specs.Words.{if_then_else_}
-use Rattle.rules.specs.Events.{Event, tick, measurement, oldKind, hit, write}
+use Rattle.rules.specs.Events.{Event, tickWith, measurement, oldKind, hit, write}
 use Rattle.rules.specs.State.{State}
 use Rattle.rules.specs.Registers.{fresh}
 use Rattle.rules.specs.Reading.{read}
@@ -54,7 +54,7 @@ isOffset (negsuc n) = leb n 32_767
 
 -- "Kind 0 tick (a mask, b lock 0 or 1, word sample)"
 unfoldable pub tickOf : ℕ → ℕ → ℤ → Decoded
-tickOf a b w = if ltb 1 b then bad else event (tick a (eqb b 1) w)
+tickOf a b w = if ltb 1 b then bad else event (tickWith a (eqb b 1) w)
 
 -- "1 measurement (a input, b offset)", of the old kind
 unfoldable pub measurementOf : ℕ → ℕ → ℤ → Decoded

@@ -3,14 +3,16 @@ use Prim.Native.Nat.{ℕ, _+_, _*_, min}
 use mathlib.Core.Bool.{Bool, _&&_}
 use lib.IntN.{ℤ}
 use Rattle.rules.specs.Words.{if_then_else_, bitOf, isTracked}
+use Rattle.rules.specs.Events.{Tick}
 use Rattle.rules.specs.Monitors.{Bucket, monitored, lockAlarmed}
 use Rattle.rules.specs.Pll.{Mode, holdover, locked, is, Loop, looped, alarmDue}
 use Rattle.rules.specs.Settings.{policy, automatic, opMode}
 use Rattle.rules.specs.Week.{Week, advanced}
-use Rattle.rules.specs.Selection.{Inputs, altered, eachFrom, chosen, steered}
+use Rattle.rules.specs.Inputs.{Inputs, altered, eachFrom}
+use Rattle.rules.specs.Selection.{chosen, steered}
 use Rattle.rules.specs.Buckets.{bucketOf}
 use Rattle.rules.specs.History.{recorded}
-use Rattle.rules.specs.State.{State, selected, mode, Blocked, Ready}
+use Rattle.rules.specs.State.{State, selected, mode, Blocked, Ready, withInputs, withLoop, withChoice, withHistory, withHolding, withWeek}
 
 -- Steps 1 and 2: each input by its bucket and its bit of the irregular mask.
 unfoldable pub watched : (ℕ → Bucket) → ℕ → Inputs → Inputs
@@ -45,35 +47,17 @@ unfoldable pub weekAfter : Week → Week
 weekAfter w = record { place = advanced (w .place); windows = w .windows }
 
 -- Steps 1 to 4. The selection is by the place that stands, and then the place advances.
-unfoldable pub steps1to4 : ℕ → Bool → State → State
-steps1to4 mask lock s =
-    let inputs = inputsAfter mask lock s in
+unfoldable pub steps1to4 : Tick → State → State
+steps1to4 t s =
+    let inputs = inputsAfter (t .mask) (t .lock) s in
     let choice = chosen (Blocked s) (s .settings) inputs (s .choice) in
-    let loop = steered (automatic (s .settings)) (opMode (s .settings)) (Ready s) (selected s) (choice .selected) (loopAfter lock s) in
-    record {
-      inputs = inputs;
-      buckets = s .buckets;
-      settings = s .settings;
-      loop = loop;
-      choice = choice;
-      history = s .history;
-      holding = holdingAfter (mode s) (loop .mode) (s .holding);
-      week = weekAfter (s .week);
-    }
+    let loop = steered (automatic (s .settings)) (opMode (s .settings)) (Ready s) (selected s) (choice .selected) (loopAfter (t .lock) s) in
+    withInputs inputs
+    (withLoop loop (withChoice choice (withHolding (holdingAfter (mode s) (loop .mode) (s .holding)) (withWeek (weekAfter (s .week)) s))))
 
 -- Step 5.
 unfoldable pub step5 : ℤ → State → State
-step5 x s =
-    record {
-      inputs = s .inputs;
-      buckets = s .buckets;
-      settings = s .settings;
-      loop = s .loop;
-      choice = s .choice;
-      history = recorded (policy (s .settings)) (selected s) (is locked (mode s)) x (s .history);
-      holding = s .holding;
-      week = s .week;
-    }
+step5 x s = withHistory (recorded (policy (s .settings)) (selected s) (is locked (mode s)) x (s .history)) s
 
-unfoldable pub ticked : ℕ → Bool → ℤ → State → State
-ticked mask lock x s = step5 x (steps1to4 mask lock s)
+unfoldable pub ticked : Tick → State → State
+ticked t s = step5 (t .sample) (steps1to4 t s)

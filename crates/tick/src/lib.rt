@@ -9,7 +9,7 @@ ghost use Rattle.rules.specs.Words.{if_then_else_, isTracked};
 ghost use Rattle.rules.specs.Monitors.{lockAlarmed};
 ghost use Rattle.rules.specs.Pll.{alarmDue};
 ghost use Rattle.rules.specs.Pll as pll;
-ghost use Rattle.rules.specs.Selection.{altered};
+ghost use Rattle.rules.specs.Inputs.{altered};
 ghost use Rattle.rules.specs.Tick as rules;
 ghost use Rattle.rules.specs.Registers.{settingsFrom};
 ghost use Rattle.buckets.specs.Bridge.{numbers, numbersOf};

@@ -10,7 +10,7 @@ use lib.Seq.{getD-set-same, getD-set-other}
 use borrow.Author.Tests.{lt-ltb, le-ltb, eqb-true, eqb-false, not-false}
 use Rattle.rules.specs.Words.{if_then_else_}
 use Rattle.rules.specs.Settings.{Settings}
-use Rattle.rules.specs.Registers.{place, inMap, stored, written, settingsFrom}
+use Rattle.rules.specs.Registers.{slot, inMap, stored, written, settingsFrom}
 use Rattle.rules.specs.Refusals.{writeRefusal}
 use Rattle.rules.proofs.Tests.{if-case, unrefused}
 use Rattle.registers.proofs.Places.{one-address}
@@ -24,20 +24,20 @@ accepted-in-map set ready held a v e = not-false (inMap a) (unrefused (not (inMa
 
 -- ---- what it leaves
 
--- a byte is stored at a place of the map
-pub write-in : (regs : List ℕ) (a v k x : ℕ) → length regs ≡ 27 → k ≡ place a → x ≡ stored a v → k < 27
+-- a byte is stored at a slot of the map
+pub write-in : (regs : List ℕ) (a v k x : ℕ) → length regs ≡ 27 → k ≡ slot a → x ≡ stored a v → k < 27
     → settingsFrom (set regs k x) ≡ (if inMap a then written a v (settingsFrom regs) else settingsFrom regs)
 unfolding settingsFrom written inMap
-write-in regs a v k x l e s h = rw (lt-ltb (place a) 27 (omega arith)) (λ i b. at b i)
+write-in regs a v k x l e s h = rw (lt-ltb (slot a) 27 (omega arith)) (λ i b. at b i)
   where
-    at : (b : ℕ) → getD (set regs k x) (place b) 0 ≡ (if eqb b a then stored a v else getD regs (place b) 0)
+    at : (b : ℕ) → getD (set regs k x) (slot b) 0 ≡ (if eqb b a then stored a v else getD regs (slot b) 0)
     at b =
-        if-case (λ n. getD (set regs k x) (place b) 0 ≡ n) (eqb b a)
+        if-case (λ n. getD (set regs k x) (slot b) 0 ≡ n) (eqb b a)
         (λ t. rw (eqb-true b a t, ← e) (getD-set-same regs k x 0 (omega arith) ∙ s))
-        (λ f. getD-set-other regs k (place b) x 0 (λ p. eqb-false b a f (one-address a b (omega arith) (p ∙ e))))
+        (λ f. getD-set-other regs k (slot b) x 0 (λ p. eqb-false b a f (one-address a b (omega arith) (p ∙ e))))
 
 -- nothing is stored
-pub write-out : (regs : List ℕ) (a v : ℕ) → 27 ≤ place a
+pub write-out : (regs : List ℕ) (a v : ℕ) → 27 ≤ slot a
     → settingsFrom regs ≡ (if inMap a then written a v (settingsFrom regs) else settingsFrom regs)
 unfolding inMap
-write-out regs a v h = rw (le-ltb (place a) 27 h)
+write-out regs a v h = rw (le-ltb (slot a) 27 h)

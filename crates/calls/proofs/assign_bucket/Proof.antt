@@ -10,7 +10,7 @@ use Rattle.rules.specs.Monitors.{Bucket, atSize}
 use Rattle.rules.specs.Buckets.{putAtSize, setAt}
 use Rattle.rules.specs.Refusals.{refusal}
 use Rattle.rules.specs.Run.{afterAssign, effect}
-use Rattle.rules.specs.Selection.{eachFrom}
+use Rattle.rules.specs.Inputs.{eachFrom}
 use Rattle.rules.proofs.SoundBuckets.{assign-allowed}
 use Rattle.buckets.specs.Bridge.{eight, bucketsOf}
 use Rattle.buckets.proofs.Sets.{set-at}

@@ -9,7 +9,7 @@ use Rattle.rules.specs.Monitors.{atSize}
 use Rattle.rules.specs.Buckets.{bucketFrom, putAtSize}
 use Rattle.rules.specs.Refusals.{refusal}
 use Rattle.rules.specs.Run.{afterSet, effect}
-use Rattle.rules.specs.Selection.{eachFrom}
+use Rattle.rules.specs.Inputs.{eachFrom}
 use Rattle.rules.proofs.SoundBuckets.{set-allowed}
 use Rattle.buckets.specs.Bridge.{eight, bucketsOf}
 use Rattle.inputs.specs.Bridge.{isSet, inputAt, inputsOf}

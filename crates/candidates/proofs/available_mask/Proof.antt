@@ -7,7 +7,7 @@ use lib.ListN.{getD}
 use borrow.Author.Needs.{needs}
 use Rattle.rules.specs.Monitors.{qualified}
 use Rattle.rules.specs.Reading.{maskUpTo}
-use Rattle.rules.specs.Registers.{settingsFrom, place}
+use Rattle.rules.specs.Registers.{settingsFrom, slot}
 use Rattle.rules.specs.Selection.{available}
 use Rattle.rules.specs.Settings.{usable}
 use Rattle.rules.specs.Words.{bit}
@@ -16,7 +16,7 @@ use Rattle.candidates.proofs.available_mask.Statement.{statement}
 use Rattle.candidates.proofs.available_mask.Tie as tie
 
 returns : tie.Need-returns
-unfolding maskUpTo available usable bit qualified inputsOf settingsFrom place
+unfolding maskUpTo available usable bit qualified inputsOf settingsFrom slot
 returns c m =
     c .mask-of .ensures
     ∙ (λ i. maskUpTo (λ j. getD (

@@ -7,7 +7,8 @@ use borrow.Author.Needs.{needs}
 use borrow.Author.Tests.{ne-eqb}
 use Rattle.rules.specs.Monitors.{qualified}
 use Rattle.rules.specs.Registers.{settingsFrom}
-use Rattle.rules.specs.Selection.{input, available, candidate}
+use Rattle.rules.specs.Inputs.{input}
+use Rattle.rules.specs.Selection.{available, candidate}
 use Rattle.rules.specs.Settings.{usable}
 use Rattle.rules.specs.Words.{bit, bitOf, isInput}
 use Rattle.inputs.specs.Bridge.{inputsOf, withSoak}

@@ -1,7 +1,7 @@
 -- The nine keys, by what `key_of` ensures of each.
 use mathlib.Core.List.{[], _∷_}
 use borrow.Author.Needs.{needs}
-use Rattle.rules.specs.Registers.{settingsFrom, place}
+use Rattle.rules.specs.Registers.{settingsFrom, slot}
 use Rattle.rules.specs.Settings.{usable, priority}
 use Rattle.rules.specs.Words.{bit}
 use Rattle.candidates.specs.Keys.{settingsKey, keysFrom}
@@ -9,7 +9,7 @@ use Rattle.candidates.proofs.keys_of.Statement.{statement}
 use Rattle.candidates.proofs.keys_of.Tie as tie
 
 returns : tie.Need-returns
-unfolding keysFrom settingsKey usable priority bit settingsFrom place
+unfolding keysFrom settingsKey usable priority bit settingsFrom slot
 returns c =
     (λ i.
     c .before .before .before .before .before .before .before .before .before .before .before .before .before .before .before .before .before .key-of .ensures i

@@ -2,7 +2,7 @@
 use mathlib.Core.Path.{refl, _∙_}
 use lib.ListN.{getD}
 use Rattle.rules.specs.Buckets.{putAtSize}
-use Rattle.rules.specs.Selection.{eachFrom}
+use Rattle.rules.specs.Inputs.{eachFrom}
 use Rattle.buckets.specs.Bridge.{eight}
 use Rattle.inputs.specs.Bridge.{isSet, inputsOf}
 use Rattle.inputs.proofs.Lanes.{put-place}

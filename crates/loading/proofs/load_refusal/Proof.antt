@@ -2,7 +2,7 @@
 use mathlib.Core.Path.{sym, _∙_}
 use borrow.Author.Needs.{needs}
 use borrow.Author.Tests.{not-false}
-use Rattle.rules.specs.Registers.{place, settingsFrom}
+use Rattle.rules.specs.Registers.{slot, settingsFrom}
 use Rattle.rules.specs.Refusals.{limitsApart}
 use Rattle.rules.proofs.Tests.{not-true}
 use Rattle.loading.proofs.Checks.{wrong-length, wrong-byte, wrong-limits, none-wrong}
@@ -16,12 +16,12 @@ returns-2 : tie.Need-returns-2
 returns-2 c = wrong-byte (c .before .before .before .before .args .table .now) (sym (c .before .within .ensures) ∙ not-true _ (c .if2 .taken))
 
 returns-3 : tie.Need-returns-3
-unfolding limitsApart settingsFrom place
+unfolding limitsApart settingsFrom slot
 returns-3 c =
     wrong-limits (c .before .before .before .before .before .before .before .before .args .table .now) (sym (c .before .limits-apart .ensures) ∙ not-true _ (c .if3 .taken))
 
 returns-4 : tie.Need-returns-4
-unfolding limitsApart settingsFrom place
+unfolding limitsApart settingsFrom slot
 returns-4 c =
     let passed = c .before .before .before .before in
     let whole = passed .before .before in

@@ -1,7 +1,7 @@
--- The command stands at place 10; every other register says it by its row.
+-- The command stands at slot 10; every other register says it by its row.
 use mathlib.Core.Path.{refl, ap, sym, _∙_}
 use borrow.Author.Needs.{needs}
-use Rattle.rules.specs.Registers.{registers, place}
+use Rattle.rules.specs.Registers.{registers, slot}
 use Rattle.rules.specs.Loading.{most}
 use Rattle.registers.specs.Bridge.{row}
 use Rattle.registers.specs.declared.Register.{Register}
@@ -10,7 +10,7 @@ use Rattle.loading.proofs.most.Statement.{statement}
 use Rattle.loading.proofs.most.Tie as tie
 
 returns : tie.Need-returns
-unfolding most registers place
+unfolding most registers slot
 returns c = rw (c .if1 .taken, c .before .place .ensures) refl
 
 returns-2 : tie.Need-returns-2
@@ -18,7 +18,7 @@ unfolding most row
 returns-2 c = rw (ap (λ (r : Register). r .readonly) (sym (c .before .row-at .ensures)) ∙ c .if2 .taken) refl
 
 returns-3 : tie.Need-returns-3
-unfolding most row place
+unfolding most row slot
 returns-3 c =
     let numbered = c .before .before .before in
     let k = numbered .before .args .k in

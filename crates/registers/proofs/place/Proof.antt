@@ -7,25 +7,25 @@ use Rattle.registers.proofs.place.Statement.{statement}
 use Rattle.registers.proofs.place.Tie as tie
 
 returns : tie.Need-returns
-unfolding rules.place
+unfolding rules.slot
 returns c = let a = c .before .args .a in rw (lt-leb 0x1c a (omega arith), lt-leb 0x40 a (omega arith))
 
 returns-2 : tie.Need-returns-2
-unfolding rules.place
+unfolding rules.slot
 returns-2 c = let a = c .before .before .args .a in rw (le-leb 0x1c a (omega arith), le-leb a 0x27 (omega arith))
 
 returns-3 : tie.Need-returns-3
-unfolding rules.place
+unfolding rules.slot
 returns-3 c = let a = c .before .before .before .args .a in rw (le-leb 0x1c a (omega arith), lt-leb a 0x27 (omega arith), lt-leb 0x40 a (omega arith))
 
 returns-4 : tie.Need-returns-4
-unfolding rules.place
+unfolding rules.slot
 returns-4 c =
     let a = c .before .before .before .before .args .a in
     rw (le-leb 0x1c a (omega arith), lt-leb a 0x27 (omega arith), le-leb 0x40 a (omega arith), le-leb a 0x4e (omega arith))
 
 returns-5 : tie.Need-returns-5
-unfolding rules.place
+unfolding rules.slot
 returns-5 c =
     let a = c .before .before .before .before .args .a in
     rw (le-leb 0x1c a (omega arith), lt-leb a 0x27 (omega arith), le-leb 0x40 a (omega arith), lt-leb a 0x4e (omega arith))

@@ -15,7 +15,7 @@ returns c =
     let a = c .before .before .args .a in
     c .row-at .ensures
     ∙ ap (λ (k : ℕ). row (getD rules.registers k (rules.reads 0))) (c .before .place .ensures)
-    ∙ any-row (rules.place a) 0 a
+    ∙ any-row (rules.slot a) 0 a
 
 pub register-at-spec : {M : Type 1} → statement M
 register-at-spec = tie.close (tie.spec (search needs) (search needs) returns)

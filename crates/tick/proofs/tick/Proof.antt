@@ -8,7 +8,8 @@ use Rattle.rules.specs.History.{recorded}
 use Rattle.rules.specs.Monitors.{lockAlarmed}
 use Rattle.rules.specs.Pll.{locked, is, alarmDue}
 use Rattle.rules.specs.Registers.{settingsFrom}
-use Rattle.rules.specs.Selection.{Inputs, altered, chosen, steered}
+use Rattle.rules.specs.Inputs.{Inputs, altered}
+use Rattle.rules.specs.Selection.{chosen, steered}
 use Rattle.rules.specs.Tick.{watched, watchedAfter, inputsAfter, loopAfter, weekAfter, steps1to4, step5, holdingAfter, ticked}
 use Rattle.rules.specs.Week.{busy}
 use Rattle.rules.specs.Words.{if_then_else_, isTracked}

@@ -9,7 +9,7 @@ use Rattle.rules.specs.Monitors.{measured}
 use Rattle.rules.specs.Refusals.{refusal}
 use Rattle.rules.specs.Registers.{settingsFrom}
 use Rattle.rules.specs.Run.{effect, afterMeasurement}
-use Rattle.rules.specs.Selection.{altered}
+use Rattle.rules.specs.Inputs.{altered}
 use Rattle.history.specs.Bridge.{historyOf}
 use Rattle.buckets.specs.Bridge.{bucketsOf}
 use Rattle.inputs.specs.Bridge.{inputsOf, withFrequency}
