@@ -1,10 +1,10 @@
 // Small functions on numbers that several crates use. None has an early return, so that eight lanes can be computed side by side.
 ghost use mathlib.Core.Path.{_≡_};
 ghost use Prim.Native.Nat.{_+_, _-_, _≤_, _<_, min, max};
-ghost use mathlib.Core.Bool.{false, _&&_};
+ghost use mathlib.Core.Bool.{false, _&&_, _||_};
 ghost use mathlib.Core.List.{[], _∷_};
 ghost use lib.ListN.{getD};
-ghost use Rattle.rules.specs.Words.{if_then_else_, between};
+ghost use Rattle.rules.specs.Words.{if_then_else_, isInput, isTracked, isCounted};
 ghost use Rattle.rules.specs.Reading.{maskUpTo};
 
 // The rules' choice by a test.
@@ -21,9 +21,31 @@ pub fn both(a: bool, b: bool) -> bool
     if a { b } else { false }
 }
 
-// A number from 1 to 8: that of an input, of a source that the PLL tracks, of a reference that counts for the history.
-pub fn one_to_eight(c: u8) -> bool
-    ensures { λ r. ⌜ r ≡ between 1 8 c ⌝ }
+// One of two tests passes.
+pub fn one_of(a: bool, b: bool) -> bool
+    ensures { λ r. ⌜ r ≡ (a || b) ⌝ }
+{
+    if a { true } else { b }
+}
+
+// "1 to 8" has three roles, and a test for each.
+// The number of an input.
+pub fn is_input(i: u32) -> bool
+    ensures { λ r. ⌜ r ≡ isInput i ⌝ }
+{
+    both(1 <= i, i <= 8)
+}
+
+// A source that the PLL tracks.
+pub fn is_tracked(c: u32) -> bool
+    ensures { λ r. ⌜ r ≡ isTracked c ⌝ }
+{
+    both(1 <= c, c <= 8)
+}
+
+// A reference that counts for the history.
+pub fn is_counted(c: u32) -> bool
+    ensures { λ r. ⌜ r ≡ isCounted c ⌝ }
 {
     both(1 <= c, c <= 8)
 }
@@ -61,6 +83,12 @@ pub fn wide16(x: u8) -> u16
     ensures { λ r. ⌜ (r ≡ x) × (r < 256) ⌝ }
 {
     x as u16
+}
+
+pub fn wide32(x: u8) -> u32
+    ensures { λ r. ⌜ (r ≡ x) × (r < 256) ⌝ }
+{
+    x as u32
 }
 
 pub fn wide64(x: u8) -> usize

@@ -1,7 +1,9 @@
 -- From the stored sets and set numbers to the rules'.
-use Prim.Native.Nat.{ℕ, _+_, _/_, _%_}
+use Prim.Native.Nat.{ℕ, _+_, _-_, _*_, _/_, _%_, _^_, min}
 use mathlib.Core.List.{List, [], _∷_}
+use lib.Dec.{eqb}
 use lib.ListN.{getD}
+use Rattle.rules.specs.Words.{if_then_else_}
 use Rattle.rules.specs.Monitors.{Bucket}
 use Rattle.rules.specs.Buckets as rules
 use Rattle.buckets.specs.declared.Buckets.{Buckets}
@@ -30,6 +32,20 @@ bucketIn w = record { size = byteOf w 1; setLevel = byteOf w 256; clearLevel = b
 -- the rules' sets that the words hold; of a stored set number the two lowest bits count
 unfoldable pub bucketsOf : Buckets → rules.Buckets
 bucketsOf b = record { sets = four (λ k. bucketIn (getD (b .sets) k 0)); assigned = eight (λ k. getD (b .assigned) k 0 % 4) }
+
+-- ---- after a call
+
+-- the word of a set: its size, set level, clear level, and the last count of a decay of 2^d ticks, d being 3 at most
+unfoldable pub wordFrom : ℕ → ℕ → ℕ → ℕ → ℕ
+wordFrom size setLevel clearLevel d = size + 256 * setLevel + 65_536 * clearLevel + 16_777_216 * (2 ^ min d 3 - 1)
+
+-- with another word for set n
+abbrev pub withWord : ℕ → ℕ → Buckets → Buckets
+withWord n w b = record { sets = four (λ k. if eqb n k then w else getD (b .sets) k 0); assigned = b .assigned }
+
+-- with another set number for input i
+abbrev pub withNumber : ℕ → ℕ → Buckets → Buckets
+withNumber i n b = record { sets = b .sets; assigned = eight (λ k. if eqb i (k + 1) then n else getD (b .assigned) k 0) }
 
 -- ---- the numbers of each input
 

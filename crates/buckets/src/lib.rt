@@ -2,19 +2,22 @@
 // A set's numbers are its size, the level that sets the activity alarm, the level that clears it, and the last decay count: one less than the ticks of a
 // decay.
 ghost use mathlib.Core.Path.{_≡_};
-ghost use Prim.Native.Nat.{_+_, _%_, _^_, _≤_};
+ghost use Prim.Native.Nat.{_+_, _-_, _%_, _^_, _≤_, min};
 ghost use lib.Dec.{eqb};
 ghost use lib.ListN.{getD};
-ghost use Rattle.rules.specs.Words.{if_then_else_, isInput};
+ghost use Rattle.rules.specs.Words.{if_then_else_};
 ghost use Rattle.rules.specs.Buckets as rules;
-ghost use Rattle.rules.specs.Buckets.{bucketFrom, freshBuckets, withSet, withAssigned};
+ghost use Rattle.rules.specs.Buckets.{freshBuckets};
 ghost use Rattle.rules.specs.Refusals.{setRefusal, assignRefusal};
-ghost use mathlib.Core.Bool.{true};
-ghost use Rattle.buckets.specs.Bridge.{four, eight, byteOf, ticksOf, bucketIn, wordOf, bucketsOf, numbersOf};
+ghost use Rattle.buckets.specs.Bridge.{four, eight, byteOf, bucketIn, wordOf, wordFrom, withWord, withNumber, bucketsOf, numbersOf};
 use arith::both;
 use arith::either;
-use arith::one_to_eight;
+use arith::is_input;
 use arith::wide16;
+use arith::wide32;
+
+// A row of eight numbers, one for each input, input 1 first.
+pub type Row = [u16; 8];
 
 // The sets, set 0 first, each in one word: from its lowest byte up the size, the set level, the clear level, and the last decay count. And the set of each
 // input, input 1 first: of its number the two lowest bits count. Words of four bytes, since eight of them are fetched at each event of a host and taken apart
@@ -22,7 +25,7 @@ use arith::wide16;
 #[repr(C)]
 pub struct Buckets {
     pub sets: [u32; 4],
-    pub assigned: [u16; 8],
+    pub assigned: Row,
 }
 
 // "Each input has one of four sets, at first set 0 .. All sets start as 8, 6, 4, 1."
@@ -45,7 +48,7 @@ fn word_at(sets: [u32; 4], n: u16) -> u32
 }
 
 // For each input the word of its set.
-fn words(sets: [u32; 4], assigned: [u16; 8]) -> [u32; 8]
+fn words(sets: [u32; 4], assigned: Row) -> [u32; 8]
     ensures { λ r. ⌜ r ≡ eight (wordOf sets assigned) ⌝ }
 {
     [
@@ -69,7 +72,7 @@ fn byte_of(w: u32, unit: u32) -> u16
 }
 
 // That byte of eight words.
-fn bytes_of(w: [u32; 8], unit: u32) -> [u16; 8]
+fn bytes_of(w: [u32; 8], unit: u32) -> Row
     requires { ⌜ 1 ≤ unit ⌝ }
     ensures { λ r. ⌜ r ≡ eight (λ k. byteOf (getD w k 0) unit) ⌝ }
 {
@@ -87,10 +90,10 @@ fn bytes_of(w: [u32; 8], unit: u32) -> [u16; 8]
 
 // For each input the numbers of its set: sizes, set levels, clear levels, and last decay counts.
 pub struct Numbers {
-    pub sizes: [u16; 8],
-    pub highs: [u16; 8],
-    pub lows: [u16; 8],
-    pub lasts: [u16; 8],
+    pub sizes: Row,
+    pub highs: Row,
+    pub lows: Row,
+    pub lasts: Row,
 }
 
 // The numbers that a tick takes: they follow from sets and assignments, and change by a call alone.
@@ -121,7 +124,7 @@ pub fn size_of(b: Buckets, n: u8) -> u16
 }
 
 // The inputs that have set n: 1 for each, 0 for the others.
-pub fn having(assigned: [u16; 8], n: u8) -> [u16; 8]
+pub fn having(assigned: Row, n: u8) -> Row
     ensures { λ r. ⌜ r ≡ eight (λ k. if eqb (getD assigned k 0 % 4) n then 1 else 0) ⌝ }
 {
     let set = wide16(n);
@@ -161,7 +164,7 @@ pub fn set_refusal(n: u8, size: u8, high: u8, low: u8, d: u8) -> u8
 pub fn assign_refusal(i: u8, n: u8) -> u8
     ensures { λ r. ⌜ r ≡ assignRefusal i n ⌝ }
 {
-    let known = one_to_eight(i);
+    let known = is_input(wide32(i));
     if known {
         if n <= 3 {
             return 0;
@@ -173,9 +176,9 @@ pub fn assign_refusal(i: u8, n: u8) -> u8
 
 // ---- sets and assignments after a call
 
-// "decay of 2^d ticks", for d from 0 to 3: the last count.
+// "decay of 2^d ticks", for d from 0 to 3: the last count. A d past 3, which no call lets through, counts as 3.
 fn last_of(d: u8) -> u32
-    ensures { λ r. ⌜ (d ≤ 3 → ticksOf r ≡ 2 ^ d) × (r ≤ 7) ⌝ }
+    ensures { λ r. ⌜ (r ≡ 2 ^ min d 3 - 1) × (r ≤ 7) ⌝ }
 {
     if d == 0 {
         return 0;
@@ -189,9 +192,9 @@ fn last_of(d: u8) -> u32
     7
 }
 
-// The word of a set, of numbers within the bounds.
+// The word of a set.
 fn word_of(size: u8, high: u8, low: u8, d: u8) -> u32
-    ensures { λ r. ⌜ (d ≤ 3 → bucketIn r ≡ bucketFrom size high low d) ⌝ }
+    ensures { λ r. ⌜ r ≡ wordFrom size high low d ⌝ }
 {
     let last = last_of(d);
     size as u32 + 256 * high as u32 + 65_536 * low as u32 + 16_777_216 * last
@@ -216,9 +219,9 @@ fn put(sets: [u32; 4], n: u8, w: u32) -> [u32; 4]
     ]
 }
 
-// The rule `withSet`, of a set and numbers within the bounds.
+// The words with that of set n anew: the rule `withSet`, of a set and numbers within the bounds (`set-anew` in proofs/Sets).
 pub fn with_set(b: Buckets, n: u8, size: u8, high: u8, low: u8, d: u8) -> Buckets
-    ensures { λ r. ⌜ (n ≤ 3 → d ≤ 3 → bucketsOf r ≡ withSet n (bucketFrom size high low d) (bucketsOf b)) ⌝ }
+    ensures { λ r. ⌜ r ≡ withWord n (wordFrom size high low d) b ⌝ }
 {
     let old = b.sets;
     let assigned = b.assigned;
@@ -230,7 +233,7 @@ pub fn with_set(b: Buckets, n: u8, size: u8, high: u8, low: u8, d: u8) -> Bucket
 }
 
 // Input i's place of a row at v, and the others as they were.
-pub fn at_input(row: [u16; 8], i: u8, v: u16) -> [u16; 8]
+pub fn at_input(row: Row, i: u8, v: u16) -> Row
     ensures { λ r. ⌜ r ≡ eight (λ k. if eqb i (k + 1) then v else getD row k 0) ⌝ }
 {
     [
@@ -245,9 +248,9 @@ pub fn at_input(row: [u16; 8], i: u8, v: u16) -> [u16; 8]
     ]
 }
 
-// The rule `withAssigned`, of an input 1 to 8 and a set 0 to 3.
+// The set numbers with input i's anew: the rule `withAssigned`, of an input 1 to 8 and a set 0 to 3 (`assigned-anew` in proofs/Sets).
 pub fn with_assigned(b: Buckets, i: u8, n: u8) -> Buckets
-    ensures { λ r. ⌜ (isInput i ≡ true → n ≤ 3 → bucketsOf r ≡ withAssigned i n (bucketsOf b)) ⌝ }
+    ensures { λ r. ⌜ r ≡ withNumber i n b ⌝ }
 {
     let sets = b.sets;
     let a = b.assigned;

@@ -22,8 +22,15 @@ use arith::least;
 use arith::mask_of;
 use arith::wide16;
 use inputs::FULL_SOAK;
+use inputs::Row;
 use inputs::qualified_at;
+use registers::FREE_RUN_SLOT;
+use registers::MASK_SLOT;
+use registers::Registers;
 use registers::setting;
+
+// The keys of the inputs 1 to 8 and of Free Run.
+pub type Keys = [u16; 9];
 
 // Above every key; its number is 0.
 const NO_KEY: u16 = 128;
@@ -39,10 +46,10 @@ fn key_of(usable: bool, register: u8, number: u8) -> u16
 }
 
 // The keys of the inputs 1 to 8 and of Free Run, by the registers alone.
-pub fn keys_of(regs: &[u8; 27]) -> [u16; 9]
+pub fn keys_of(regs: &Registers) -> Keys
     ensures { λ r. ⌜ r ≡ keysFrom (settingsFrom (now (regs .entry))) ⌝ }
 {
-    let u = regs[14];
+    let u = regs[MASK_SLOT];
     [
         key_of(u / 1 % 2 == 1, regs[0], 1),
         key_of(u / 2 % 2 == 1, regs[1], 2),
@@ -52,7 +59,7 @@ pub fn keys_of(regs: &[u8; 27]) -> [u16; 9]
         key_of(u / 32 % 2 == 1, regs[5], 6),
         key_of(u / 64 % 2 == 1, regs[6], 7),
         key_of(u / 128 % 2 == 1, regs[7], 8),
-        key_of(regs[8] / 16 % 2 == 1, regs[8], 9),
+        key_of(regs[FREE_RUN_SLOT] / 16 % 2 == 1, regs[FREE_RUN_SLOT], 9),
     ]
 }
 
@@ -66,7 +73,7 @@ fn held(soak: u16, key: u16) -> u16
 }
 
 // The keys of the qualified inputs.
-fn held_row(s: [u16; 8], k: &[u16; 9]) -> [u16; 8]
+fn held_row(s: Row, k: &Keys) -> Row
     ensures { λ r. ⌜ r ≡ eight (λ j. if eqb (getD s j 0) fullSoak then getD (now (k .entry)) j 0 else noKey) ⌝ }
 {
     [
@@ -82,7 +89,7 @@ fn held_row(s: [u16; 8], k: &[u16; 9]) -> [u16; 8]
 }
 
 // The least of eight keys and a ninth. Halves are compared with halves, so that four at a time can be.
-fn least_of_nine(k: [u16; 8], ninth: u16) -> u16
+fn least_of_nine(k: Row, ninth: u16) -> u16
     ensures { λ r. ⌜ r ≡ min ninth (min (getD k 7 0) (min (getD k 6 0) (min (getD k 5 0) (min (getD k 4 0) (min (getD k 3 0) (min (getD k 2 0) (min (getD k 1 0) (getD k 0 0)))))))) ⌝ }
 {
     let a = least(k[0], k[4]);
@@ -93,14 +100,14 @@ fn least_of_nine(k: [u16; 8], ninth: u16) -> u16
 }
 
 // The number in a key.
-fn number_in(key: u16) -> u8
+fn number_in(key: u16) -> u32
     ensures { λ r. ⌜ r ≡ key % 16 ⌝ }
 {
-    (key % 16) as u8
+    (key % 16) as u32
 }
 
 // The rule `best`: the candidate that is ahead of every other, or 0.
-pub fn best_of(soak: &[u16; 8], keys: &[u16; 9]) -> u8
+pub fn best_of(soak: &Row, keys: &Keys) -> u32
     ensures { λ r. ⌜ ((set : Settings) (m : stored.Monitors) → now (keys .entry) ≡ keysFrom set → r ≡ best set (inputsOf (withSoak m (now (soak .entry))))) ⌝ }
 {
     let s = *soak;
@@ -110,7 +117,7 @@ pub fn best_of(soak: &[u16; 8], keys: &[u16; 9]) -> u8
 // ---- candidates
 
 // Input c is unmasked: its bit of the mask 0x42.
-fn is_unmasked(usable: u8, c: u8) -> bool
+fn is_unmasked(usable: u8, c: u32) -> bool
     ensures { λ r. ⌜ r ≡ (isInput c && bitOf usable c) ⌝ }
 {
     if c < 1 {
@@ -124,7 +131,7 @@ fn is_unmasked(usable: u8, c: u8) -> bool
 }
 
 // The rule `candidate`: an available reference, or Free Run if enabled.
-pub fn is_candidate(soak: &[u16; 8], regs: &[u8; 27], c: u8) -> bool
+pub fn is_candidate(soak: &Row, regs: &Registers, c: u32) -> bool
     ensures { λ r. ⌜ ((m : stored.Monitors) → r ≡ candidate (settingsFrom (now (regs .entry))) (inputsOf (withSoak m (now (soak .entry)))) c) ⌝ }
 {
     if c == 9 {
@@ -134,11 +141,11 @@ pub fn is_candidate(soak: &[u16; 8], regs: &[u8; 27], c: u8) -> bool
 }
 
 // The mask of the available references, as 0x47 shows it.
-pub fn available_mask(soak: &[u16; 8], regs: &[u8; 27]) -> u8
+pub fn available_mask(soak: &Row, regs: &Registers) -> u8
     ensures { λ r. ⌜ ((m : stored.Monitors) → r ≡ maskUpTo (available (settingsFrom (now (regs .entry))) (inputsOf (withSoak m (now (soak .entry))))) 8) ⌝ }
 {
     let s = *soak;
-    let u = regs[14];
+    let u = regs[MASK_SLOT];
     mask_of(
         both(u / 1 % 2 == 1, s[0] == FULL_SOAK),
         both(u / 2 % 2 == 1, s[1] == FULL_SOAK),
@@ -152,7 +159,7 @@ pub fn available_mask(soak: &[u16; 8], regs: &[u8; 27]) -> u8
 }
 
 // How many references are available, as 0x4e shows it: the ones of the available mask.
-pub fn available_count(soak: &[u16; 8], regs: &[u8; 27]) -> u8
+pub fn available_count(soak: &Row, regs: &Registers) -> u8
     ensures { λ r. ⌜ ((m : stored.Monitors) → r ≡ countUpTo (available (settingsFrom (now (regs .entry))) (inputsOf (withSoak m (now (soak .entry))))) 8) ⌝ }
 {
     u8::count_ones(available_mask(soak, regs)) as u8

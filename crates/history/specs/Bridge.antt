@@ -1,8 +1,8 @@
 -- From the code's tally and sums to the rules' history.
-use Prim.Native.Nat.{ℕ}
+use Prim.Native.Nat.{ℕ, zero, suc, min}
 use mathlib.Core.Path.{_≡_}
 use mathlib.Core.Bool.{false, not}
-use mathlib.Core.List.{List, _∷_, map}
+use mathlib.Core.List.{List, [], _∷_}
 use lib.Dec.{eqb}
 use lib.IntN.{ℤ, pos}
 use lib.ListN.{take}
@@ -10,11 +10,16 @@ use Rattle.rules.specs.Words.{if_then_else_}
 use Rattle.rules.specs.History.{History, saturated, completed}
 use Rattle.history.specs.declared.Tally.{Tally}
 use Rattle.history.specs.declared.Update.{Update}
-use Rattle.history.specs.declared.History as code
 
--- The first `count` of the stored sums, or all where there are fewer. A sum past ±16,000,000,000, which no history makes, is read as that bound.
-unfoldable pub keptOf : List ℤ → ℕ → List ℤ
-keptOf sums count = map saturated (take count sums)
+-- The first so many of the stored sums; one that is not there counts as 0. A sum past ±16,000,000,000, which no history makes, is read as that bound.
+unfoldable pub firstSums : ℕ → List ℤ → List ℤ
+firstSums zero sums = []
+firstSums (suc n) [] = pos 0 ∷ firstSums n []
+firstSums (suc n) (x ∷ sums) = saturated x ∷ firstSums n sums
+
+-- the first `count` of them, at most 64
+abbrev pub keptOf : List ℤ → ℕ → List ℤ
+keptOf sums count = firstSums (min count 64) sums
 
 -- THE BRIDGE: the history that a tally is, with the sums in use, those of the building history and the backup's
 abbrev pub historyOf : Tally → List ℤ → List ℤ → List ℤ → History
@@ -29,10 +34,6 @@ historyOf t sums building backup =
       command = t .command;
       backup = keptOf backup (t .backed);
     }
-
--- the history that the whole struct is
-abbrev pub wholeOf : code.History → History
-wholeOf h = historyOf (h .tally) (h .sums) (h .building) (h .backup)
 
 -- the 64 sums with a new one first
 abbrev pub pushed : ℤ → List ℤ → List ℤ

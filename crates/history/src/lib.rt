@@ -5,11 +5,10 @@ ghost use mathlib.Core.Path.{_≡_};
 ghost use mathlib.Core.List.{List};
 ghost use Prim.Native.Nat.{_+_, min};
 ghost use lib.IntN.{ℤ, _+ℤ_};
-ghost use lib.ListN.{length};
 ghost use Rattle.rules.specs.History as rules;
 ghost use Rattle.rules.specs.History.{ready, held, saturated, openEmptied, sampled, startsBuilding, noted, recorded, replaced, freshHistory};
-ghost use Rattle.history.specs.Bridge.{keptOf, historyOf, wholeOf, pushed, Steps, Updates};
-use arith::one_to_eight;
+ghost use Rattle.history.specs.Bridge.{keptOf, historyOf, pushed, Steps, Updates};
+use arith::is_counted;
 
 // What a tick changes of the history.
 #[repr(C)]
@@ -28,27 +27,14 @@ pub struct Tally {
     pub command: u8,
 }
 
-// The whole history: the tally, the block sums in use, newest first, those of the building history, and the backup's.
-#[repr(C)]
-pub struct History {
-    pub tally: Tally,
-    pub sums: [i64; 64],
-    pub building: [i64; 64],
-    pub backup: [i64; 64],
-}
+// Block sums, newest first: those in use, those of the building history, or the backup's.
+pub type Sums = [i64; 64];
 
 // What step 5 gives of the tally: the tally, whether a block is done, and if so its sum, which is to join the history that fills.
 struct Update {
     tally: Tally,
     done: bool,
     sum: i64,
-}
-
-// Sums have their 64 places: what their type says, as a fact. It costs nothing when compiled.
-pub fn places(sums: [i64; 64]) -> usize
-    ensures { λ r. ⌜ length sums ≡ 64 ⌝ }
-{
-    sums.len()
 }
 
 // ---- step 5
@@ -68,14 +54,14 @@ pub fn within(z: i64) -> i64
 
 // `ready`: 43 blocks or more are in use.
 pub fn is_ready(t: Tally) -> bool
-    ensures { λ r. ⌜ ((sums building backup : List ℤ) → length sums ≡ 64 → r ≡ ready (historyOf t sums building backup)) ⌝ }
+    ensures { λ r. ⌜ ((sums building backup : List ℤ) → r ≡ ready (historyOf t sums building backup)) ⌝ }
 {
     43 <= t.count
 }
 
 // `held`: the backup is not empty.
 pub fn holds_backup(t: Tally) -> bool
-    ensures { λ r. ⌜ ((sums building backup : List ℤ) → length backup ≡ 64 → r ≡ held (historyOf t sums building backup .backup)) ⌝ }
+    ensures { λ r. ⌜ ((sums building backup : List ℤ) → r ≡ held (historyOf t sums building backup .backup)) ⌝ }
 {
     t.backed != 0
 }
@@ -145,16 +131,17 @@ fn starts_building(t: Tally) -> Tally
 }
 
 // `noted`: a reference is noted as the one selected last; with policy 0, another than the last one starts a building history.
-fn noted(policy: u8, selected: u8, t: Tally) -> Tally
+fn noted(policy: u8, selected: u32, t: Tally) -> Tally
     ensures { λ r. ⌜ Steps t r (noted policy selected) ⌝ }
 {
-    let counts = one_to_eight(selected);
+    let counts = is_counted(selected);
     if counts {
-        if selected == t.last {
+        let reference = selected as u8;
+        if reference == t.last {
             return t;
         }
         let mut next = t;
-        next.last = selected;
+        next.last = reference;
         if policy == 0 {
             return starts_building(next);
         }
@@ -164,7 +151,7 @@ fn noted(policy: u8, selected: u8, t: Tally) -> Tally
 }
 
 // `recorded`, step 5, of the tally: `locked` says whether the tick ends Locked, and x is its sample.
-fn updated(policy: u8, selected: u8, locked: bool, x: i32, t: Tally) -> Update
+fn updated(policy: u8, selected: u32, locked: bool, x: i32, t: Tally) -> Update
     ensures { λ r. ⌜ Updates t r (recorded policy selected locked x) ⌝ }
 {
     let next = noted(policy, selected, t);
@@ -180,7 +167,7 @@ fn updated(policy: u8, selected: u8, locked: bool, x: i32, t: Tally) -> Update
 }
 
 // `pushed`: the new sum first, each other a place on, and the oldest dropped.
-fn pushed_on(sums: [i64; 64], x: i64) -> [i64; 64]
+fn pushed_on(sums: Sums, x: i64) -> Sums
     ensures { λ r. ⌜ r ≡ pushed x sums ⌝ }
 {
     let mut r = [x; 64];
@@ -193,7 +180,7 @@ fn pushed_on(sums: [i64; 64], x: i64) -> [i64; 64]
 }
 
 // `pushed`, where the sums lie.
-fn push(sums: &mut [i64; 64], x: i64)
+fn push(sums: &mut Sums, x: i64)
     ensures { λ _. ⌜ now (sums .exit) ≡ pushed x (now (sums .entry)) ⌝ }
 {
     let old = *sums;
@@ -209,10 +196,9 @@ fn one_more(n: u8) -> u8
 }
 
 // `completed`: the block joins the history that fills; a building history that then has 43 replaces the blocks in use.
-fn completed(sum: i64, t: Tally, sums: &mut [i64; 64], building: &mut [i64; 64]) -> Tally
+fn completed(sum: i64, t: Tally, sums: &mut Sums, building: &mut Sums) -> Tally
     ensures { λ r. ⌜ ((backup : List ℤ) → historyOf r (now (sums .exit)) (now (building .exit)) backup ≡ rules.completed (saturated sum) (historyOf t (now (sums .entry)) (now (building .entry)) backup)) ⌝ }
 {
-    places(*building);
     if t.builds == 0 {
         push(sums, sum);
         return replaced(one_more(t.count), t);
@@ -233,12 +219,12 @@ fn completed(sum: i64, t: Tally, sums: &mut [i64; 64], building: &mut [i64; 64])
 // `recorded`, step 5: the sums are touched only when a block completes.
 pub fn recorded(
     policy: u8,
-    selected: u8,
+    selected: u32,
     locked: bool,
     x: i32,
     t: Tally,
-    sums: &mut [i64; 64],
-    building: &mut [i64; 64],
+    sums: &mut Sums,
+    building: &mut Sums,
 ) -> Tally
     ensures { λ r. ⌜ ((backup : List ℤ) → historyOf r (now (sums .exit)) (now (building .exit)) backup ≡ rules.recorded policy selected locked x (historyOf t (now (sums .entry)) (now (building .entry)) backup)) ⌝ }
 {
@@ -256,9 +242,9 @@ pub fn recorded(
 pub fn commanded(
     c: u8,
     t: Tally,
-    sums: &mut [i64; 64],
-    building: &mut [i64; 64],
-    backup: &mut [i64; 64],
+    sums: &mut Sums,
+    building: &mut Sums,
+    backup: &mut Sums,
 ) -> Tally
     ensures { λ r. ⌜ historyOf r (now (sums .exit)) (now (building .exit)) (now (backup .exit)) ≡ rules.commanded c (historyOf t (now (sums .entry)) (now (building .entry)) (now (backup .entry))) ⌝ }
 {
@@ -283,23 +269,18 @@ pub fn commanded(
     next
 }
 
-// `freshHistory`: no block, no sample, no backup, and nothing builds; the last reference and the last command are 0.
-pub fn fresh_history() -> History
-    ensures { λ r. ⌜ wholeOf r ≡ freshHistory ⌝ }
+// `freshHistory`: no block, no sample, no backup, and nothing builds, whatever the sums are; the last reference and the last command are 0.
+pub fn fresh_tally() -> Tally
+    ensures { λ r. ⌜ ((sums building backup : List ℤ) → historyOf r sums building backup ≡ freshHistory) ⌝ }
 {
-    History {
-        tally: Tally {
-            open: 0,
-            filled: 0,
-            count: 0,
-            built: 0,
-            backed: 0,
-            builds: 0,
-            last: 0,
-            command: 0,
-        },
-        sums: [0; 64],
-        building: [0; 64],
-        backup: [0; 64],
+    Tally {
+        open: 0,
+        filled: 0,
+        count: 0,
+        built: 0,
+        backed: 0,
+        builds: 0,
+        last: 0,
+        command: 0,
     }
 }

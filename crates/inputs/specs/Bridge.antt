@@ -9,18 +9,17 @@ use lib.ListN.{getD}
 use Rattle.rules.specs.Monitors.{Input}
 use Rattle.rules.specs.Inputs.{Inputs}
 use Rattle.buckets.specs.Bridge.{eight}
-use Rattle.buckets.specs.declared.Buckets.{Buckets}
 use Rattle.inputs.specs.declared.Monitors.{Monitors}
 
 -- an alarm that is a number: 0 is clear, any other number is set
 abbrev pub isSet : ℕ → Bool
 isSet n = not (eqb n 0)
 
--- the input at a place of the rows: input 1 is at 0
+-- the input in a lane of the rows: input 1 is in lane 0
 abbrev pub inputAt : Monitors → ℕ → Input
 inputAt m k =
     record {
-      activity = record { level = getD (m .level) k 0; decay = getD (m .decay) k 0; alarm = isSet (getD (m .active) k 0) };
+      activity = record { level = getD (m .level) k 0; decay = getD (m .decay) k 0; alarm = isSet (getD (m .activity) k 0) };
       frequency = isSet (getD (m .frequency) k 0);
       remainder = getD (m .remainder) k 0;
       soak = getD (m .soak) k 0;
@@ -35,7 +34,7 @@ inputsOf m = eight (inputAt m)
 -- other frequency alarms, remainders and soaks
 abbrev pub withAlarms : Monitors → List ℕ → List ℕ → List ℕ → Monitors
 withAlarms m frequency remainder soak =
-    record { level = m .level; decay = m .decay; active = m .active; frequency = frequency; remainder = remainder; soak = soak; buckets = m .buckets }
+    record { level = m .level; decay = m .decay; activity = m .activity; frequency = frequency; remainder = remainder; soak = soak }
 
 abbrev pub withFrequency : Monitors → List ℕ → Monitors
 withFrequency m frequency = withAlarms m frequency (m .remainder) (m .soak)
@@ -52,32 +51,26 @@ withSoak m soak = withAlarms m (m .frequency) (m .remainder) soak
 abbrev pub Row : Type 0
 Row = Both (RefT (List ℕ)) (RefT (List ℕ))
 
--- what a tick is lent of the inputs: five rows for a change, and the frequency alarms for reading; the sets are not lent
-abbrev pub entering : Row → Row → Row → List ℕ → Row → Row → Buckets → Monitors
-entering level decay active frequency remainder soak buckets =
+-- what a tick is lent of the inputs: five rows for a change, and the frequency alarms for reading; as the call begins
+abbrev pub entering : Row → Row → Row → List ℕ → Row → Row → Monitors
+entering level decay activity frequency remainder soak =
     record {
       level = now (level .entry);
       decay = now (decay .entry);
-      active = now (active .entry);
+      activity = now (activity .entry);
       frequency = frequency;
       remainder = now (remainder .entry);
       soak = now (soak .entry);
-      buckets = buckets;
     }
 
-abbrev pub leaving : Row → Row → Row → List ℕ → Row → Row → Buckets → Monitors
-leaving level decay active frequency remainder soak buckets =
+-- and as it returns
+abbrev pub leaving : Row → Row → Row → List ℕ → Row → Row → Monitors
+leaving level decay activity frequency remainder soak =
     record {
       level = now (level .exit);
       decay = now (decay .exit);
-      active = now (active .exit);
+      activity = now (activity .exit);
       frequency = frequency;
       remainder = now (remainder .exit);
       soak = now (soak .exit);
-      buckets = buckets;
     }
-
--- what is said of the rows as a call begins and as it returns, whatever the sets are
-abbrev pub across : Row → Row → Row → List ℕ → Row → Row → (Monitors → Monitors → Type 0) → Type 0
-across level decay active frequency remainder soak says =
-    (buckets : Buckets) → says (entering level decay active frequency remainder soak buckets) (leaving level decay active frequency remainder soak buckets)

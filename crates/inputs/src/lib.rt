@@ -10,17 +10,15 @@ ghost use lib.ListN as ListN;
 ghost use Rattle.rules.specs.Words.{if_then_else_, isInput};
 ghost use Rattle.rules.specs.Monitors.{qualified, unsoaked, lockAlarmed, frequencyAfter, measured, freshInput};
 ghost use Rattle.rules.specs.Inputs.{input, altered};
-ghost use Rattle.rules.specs.Buckets.{freshBuckets, putAtSize};
-ghost use Rattle.buckets.specs.Bridge.{eight, bucketsOf};
-ghost use Rattle.buckets.specs.declared.Buckets as sets;
-ghost use Rattle.rules.specs.Reading.{maskUpTo};
+ghost use Rattle.rules.specs.Buckets.{putAtSize};
+ghost use Rattle.buckets.specs.Bridge.{eight};
+ghost use Rattle.rules.specs.Reading.{qualifiedMask};
 ghost use Rattle.inputs.specs.Bridge.{isSet, inputsOf, withFrequency, withLockAlarms, withSoak};
 ghost use Rattle.inputs.specs.declared.Monitors as stored;
-use arith::down;
 use arith::either;
 use arith::mask_of;
-use arith::wide16;
-use buckets::Buckets;
+use arith::wide32;
+use buckets::Row;
 
 // The soak of a qualified input.
 pub const FULL_SOAK: u16 = 79;
@@ -29,31 +27,28 @@ pub const FULL_SOAK: u16 = 79;
 const ALARM_TICKS: u16 = 782;
 
 // The rows: the bucket's level and decay count, the activity alarm, the frequency alarm, the lock alarm's remainder, the soak. An alarm is set when it is
-// not 0. Beside them the sets of bucket numbers.
+// not 0.
 #[repr(C)]
 pub struct Monitors {
-    pub level: [u16; 8],
-    pub decay: [u16; 8],
-    pub active: [u16; 8],
-    pub frequency: [u16; 8],
-    pub remainder: [u16; 8],
-    pub soak: [u16; 8],
-    pub buckets: Buckets,
+    pub level: Row,
+    pub decay: Row,
+    pub activity: Row,
+    pub frequency: Row,
+    pub remainder: Row,
+    pub soak: Row,
 }
 
 // "Fresh: all counts 0, activity alarms clear, frequency alarms set"
 pub fn fresh_monitors() -> Monitors
-    ensures { λ r. ⌜ (inputsOf r ≡ replicate 8 freshInput) × (bucketsOf (r .buckets) ≡ freshBuckets) ⌝ }
+    ensures { λ r. ⌜ inputsOf r ≡ replicate 8 freshInput ⌝ }
 {
-    let buckets = buckets::fresh_buckets();
     Monitors {
         level: [0; 8],
         decay: [0; 8],
-        active: [0; 8],
+        activity: [0; 8],
         frequency: [1; 8],
         remainder: [0; 8],
         soak: [0; 8],
-        buckets: buckets,
     }
 }
 
@@ -82,35 +77,35 @@ fn frequency_of(reject: u16, limit: u16, magnitude: u16, frequency: u16) -> u16
 
 // ---- one of the eight altered
 
-// The place of input i.
-fn place(i: u8) -> usize
+// The lane of input i in a row.
+fn lane(i: u32) -> usize
     ensures { λ r. ⌜ r ≡ i - 1 ⌝ }
 {
-    down(wide16(i)) as usize
+    if i == 0 { 0 } else { (i - 1) as usize }
 }
 
 // A row has eight numbers: what its type says, as a fact. It costs nothing when compiled.
-pub fn places(row: [u16; 8]) -> usize
-    ensures { λ r. ⌜ length row ≡ 8 ⌝ }
+fn lanes(row: Row) -> usize
+    ensures { λ r. ⌜ (r ≡ 8) × (length row ≡ 8) ⌝ }
 {
     row.len()
 }
 
-// One number of a row replaced, if there is a place k.
-fn put(row: &mut [u16; 8], k: usize, v: u16)
+// One number of a row replaced, if there is a lane k.
+fn put(row: &mut Row, k: usize, v: u16)
     ensures { λ _. ⌜ (now (row .exit) ≡ ListN.set (now (row .entry)) k v) × (length (now (row .entry)) ≡ 8) ⌝ }
 {
-    places(*row);
+    lanes(*row);
     if k < 8 {
         row[k] = v;
     }
 }
 
-// The number at a place of a row, or 0 where there is none.
-fn number_at(row: &[u16; 8], k: usize) -> u16
+// The number in a lane of a row, or 0 where there is none.
+fn number_at(row: &Row, k: usize) -> u16
     ensures { λ r. ⌜ r ≡ ListN.getD (now (row .entry)) k 0 ⌝ }
 {
-    places(*row);
+    lanes(*row);
     if k < 8 {
         return row[k];
     }
@@ -118,36 +113,36 @@ fn number_at(row: &[u16; 8], k: usize) -> u16
 }
 
 // A measurement of input i: `measured`. Offset and limits are in one unit.
-pub fn measure(frequency: &mut [u16; 8], i: u8, offset: i16, reject: u16, limit: u16)
+pub fn measure(frequency: &mut Row, i: u8, offset: i16, reject: u16, limit: u16)
     ensures { λ _. ⌜ ((m : stored.Monitors) → inputsOf (withFrequency m (now (frequency .exit))) ≡ altered (measured reject limit offset) i (inputsOf (withFrequency m (now (frequency .entry))))) ⌝ }
 {
-    let k = place(i);
+    let k = lane(wide32(i));
     let old = number_at(frequency, k);
     let new = frequency_of(reject, limit, magnitude(offset), old);
     put(frequency, k, new);
 }
 
 // The lock alarm of input i: `lockAlarmed`.
-pub fn alarm(remainder: &mut [u16; 8], soak: &mut [u16; 8], i: u8)
+pub fn alarm(remainder: &mut Row, soak: &mut Row, i: u32)
     ensures { λ _. ⌜ ((m : stored.Monitors) → inputsOf (withLockAlarms m (now (remainder .exit)) (now (soak .exit))) ≡ altered lockAlarmed i (inputsOf (withLockAlarms m (now (remainder .entry)) (now (soak .entry))))) ⌝ }
 {
-    let k = place(i);
+    let k = lane(i);
     put(remainder, k, ALARM_TICKS);
     put(soak, k, 0);
 }
 
 // The soak of input i at 0: `unsoaked`.
-pub fn unsoak(soak: &mut [u16; 8], i: u8)
+pub fn unsoak(soak: &mut Row, i: u32)
     ensures { λ _. ⌜ ((m : stored.Monitors) → inputsOf (withSoak m (now (soak .exit))) ≡ altered unsoaked i (inputsOf (withSoak m (now (soak .entry))))) ⌝ }
 {
-    let k = place(i);
+    let k = lane(i);
     put(soak, k, 0);
 }
 
 // ---- put at the bucket's size
 
 // One value for each input that is concerned; the others keep theirs.
-fn replaced(concerned: [u16; 8], v: u16, row: [u16; 8]) -> [u16; 8]
+fn replaced(concerned: Row, v: u16, row: Row) -> Row
     ensures { λ r. ⌜ r ≡ eight (λ k. if isSet (ListN.getD concerned k 0) then v else ListN.getD row k 0) ⌝ }
 {
     [
@@ -162,35 +157,34 @@ fn replaced(concerned: [u16; 8], v: u16, row: [u16; 8]) -> [u16; 8]
     ]
 }
 
-// The rule `putAtSize`, with these sets beside the rows.
-pub fn put_at_size(m: Monitors, concerned: [u16; 8], size: u16, b: Buckets) -> Monitors
-    ensures { λ r. ⌜ (inputsOf r ≡ putAtSize (λ i. isSet (ListN.getD concerned (i - 1) 0)) size (inputsOf m)) × (r .buckets ≡ b) ⌝ }
+// The rule `putAtSize`.
+pub fn put_at_size(m: Monitors, concerned: Row, size: u16) -> Monitors
+    ensures { λ r. ⌜ inputsOf r ≡ putAtSize (λ i. isSet (ListN.getD concerned (i - 1) 0)) size (inputsOf m) ⌝ }
 {
     let l = m.level;
     let d = m.decay;
-    let a = m.active;
+    let a = m.activity;
     let level = replaced(concerned, size, l);
     let decay = replaced(concerned, 0, d);
-    let active = replaced(concerned, 1, a);
+    let activity = replaced(concerned, 1, a);
     let frequency = m.frequency;
     let remainder = m.remainder;
     let soak = m.soak;
     Monitors {
         level: level,
         decay: decay,
-        active: active,
+        activity: activity,
         frequency: frequency,
         remainder: remainder,
         soak: soak,
-        buckets: b,
     }
 }
 
 // ---- qualified
 
 // The mask of the qualified inputs, as 0x46 shows it.
-pub fn qualified_mask(soak: &[u16; 8]) -> u8
-    ensures { λ r. ⌜ ((m : stored.Monitors) → r ≡ maskUpTo (λ i. qualified (input (inputsOf (withSoak m (now (soak .entry)))) i)) 8) ⌝ }
+pub fn qualified_mask(soak: &Row) -> u8
+    ensures { λ r. ⌜ ((m : stored.Monitors) → r ≡ qualifiedMask (inputsOf (withSoak m (now (soak .entry))))) ⌝ }
 {
     let s = *soak;
     mask_of(
@@ -206,14 +200,14 @@ pub fn qualified_mask(soak: &[u16; 8]) -> u8
 }
 
 // Whether c is the number of an input that is qualified.
-pub fn qualified_at(soak: &[u16; 8], c: u8) -> bool
+pub fn qualified_at(soak: &Row, c: u32) -> bool
     ensures { λ r. ⌜ ((m : stored.Monitors) → r ≡ (isInput c && qualified (input (inputsOf (withSoak m (now (soak .entry)))) c))) ⌝ }
 {
     if c < 1 {
         return false;
     }
     if c <= 8 {
-        let k = place(c);
+        let k = lane(c);
         return soak[k] == FULL_SOAK;
     }
     false

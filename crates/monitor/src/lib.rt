@@ -7,14 +7,15 @@ ghost use lib.ListN.{getD};
 ghost use Rattle.rules.specs.Monitors.{levelAfter, good, soakAfter};
 ghost use Rattle.rules.specs.Tick as Tick;
 ghost use Rattle.buckets.specs.Bridge.{eight, ticksOf, bucketAt};
-ghost use Rattle.inputs.specs.Bridge.{isSet, inputsOf, across};
-ghost use Rattle.monitor.specs.Rows.{weight, decayNumber, activeAfter};
+ghost use Rattle.inputs.specs.Bridge.{isSet, inputsOf, entering, leaving};
+ghost use Rattle.monitor.specs.Rows.{weight, decayNumber, activityAfter};
 use arith::both;
 use arith::down;
 use arith::either;
 use arith::larger;
 use arith::up;
 use arith::wide16;
+use buckets::Row;
 use inputs::FULL_SOAK;
 
 // ---- one input: `size`, `high`, `low` and `last` are its bucket's size, set level, clear level and last decay count
@@ -46,25 +47,25 @@ fn decay_of(last: u16, weight: u16, decay: u16) -> u16
 }
 
 // The rule `alarmAfter`, as a number: 1 where it is set anew.
-fn active_of(high: u16, low: u16, level: u16, active: u16) -> u16
-    ensures { λ r. ⌜ r ≡ activeAfter high low level active ⌝ }
+fn activity_of(high: u16, low: u16, level: u16, activity: u16) -> u16
+    ensures { λ r. ⌜ r ≡ activityAfter high low level activity ⌝ }
 {
-    either(high <= level, 1, either(level <= low, 0, active))
+    either(high <= level, 1, either(level <= low, 0, activity))
 }
 
 // The rule `good`.
-fn is_good(active: u16, frequency: u16, remainder: u16) -> bool
-    ensures { λ r. ⌜ r ≡ good (isSet active) (isSet frequency) remainder ⌝ }
+fn is_good(activity: u16, frequency: u16, remainder: u16) -> bool
+    ensures { λ r. ⌜ r ≡ good (isSet activity) (isSet frequency) remainder ⌝ }
 {
-    both(both(active == 0, frequency == 0), remainder == 0)
+    both(both(activity == 0, frequency == 0), remainder == 0)
 }
 
 // The rule `soakAfter`, of an input with these alarms.
-fn soak_of(active: u16, frequency: u16, remainder: u16, soak: u16) -> u16
-    ensures { λ r. ⌜ r ≡ soakAfter (good (isSet active) (isSet frequency) remainder) soak ⌝ }
+fn soak_of(activity: u16, frequency: u16, remainder: u16, soak: u16) -> u16
+    ensures { λ r. ⌜ r ≡ soakAfter (good (isSet activity) (isSet frequency) remainder) soak ⌝ }
 {
     either(
-        is_good(active, frequency, remainder),
+        is_good(activity, frequency, remainder),
         up(soak, FULL_SOAK),
         0,
     )
@@ -73,7 +74,7 @@ fn soak_of(active: u16, frequency: u16, remainder: u16, soak: u16) -> u16
 // ---- rows of eight
 
 // The irregular mask as a row: the weight of each input's bit, 256 or more, or 0.
-fn irregular_row(mask: u8) -> [u16; 8]
+fn irregular_row(mask: u8) -> Row
     ensures { λ r. ⌜ r ≡ eight (weight mask) ⌝ }
 {
     let m = wide16(mask);
@@ -89,7 +90,7 @@ fn irregular_row(mask: u8) -> [u16; 8]
     ]
 }
 
-fn level_row(s: [u16; 8], t: [u16; 8], b: [u16; 8], l: [u16; 8], d: [u16; 8]) -> [u16; 8]
+fn level_row(s: Row, t: Row, b: Row, l: Row, d: Row) -> Row
     ensures { λ r. ⌜ r ≡ eight (λ k. levelAfter (getD s k 0) (ticksOf (getD t k 0)) (isSet (getD b k 0)) (getD l k 0) (getD d k 0)) ⌝ }
 {
     [
@@ -104,7 +105,7 @@ fn level_row(s: [u16; 8], t: [u16; 8], b: [u16; 8], l: [u16; 8], d: [u16; 8]) ->
     ]
 }
 
-fn decay_row(t: [u16; 8], b: [u16; 8], d: [u16; 8]) -> [u16; 8]
+fn decay_row(t: Row, b: Row, d: Row) -> Row
     ensures { λ r. ⌜ r ≡ eight (λ k. decayNumber (getD t k 0) (getD b k 0) (getD d k 0)) ⌝ }
 {
     [
@@ -119,22 +120,22 @@ fn decay_row(t: [u16; 8], b: [u16; 8], d: [u16; 8]) -> [u16; 8]
     ]
 }
 
-fn active_row(h: [u16; 8], w: [u16; 8], l: [u16; 8], a: [u16; 8]) -> [u16; 8]
-    ensures { λ r. ⌜ r ≡ eight (λ k. activeAfter (getD h k 0) (getD w k 0) (getD l k 0) (getD a k 0)) ⌝ }
+fn activity_row(h: Row, w: Row, l: Row, a: Row) -> Row
+    ensures { λ r. ⌜ r ≡ eight (λ k. activityAfter (getD h k 0) (getD w k 0) (getD l k 0) (getD a k 0)) ⌝ }
 {
     [
-        active_of(h[0], w[0], l[0], a[0]),
-        active_of(h[1], w[1], l[1], a[1]),
-        active_of(h[2], w[2], l[2], a[2]),
-        active_of(h[3], w[3], l[3], a[3]),
-        active_of(h[4], w[4], l[4], a[4]),
-        active_of(h[5], w[5], l[5], a[5]),
-        active_of(h[6], w[6], l[6], a[6]),
-        active_of(h[7], w[7], l[7], a[7]),
+        activity_of(h[0], w[0], l[0], a[0]),
+        activity_of(h[1], w[1], l[1], a[1]),
+        activity_of(h[2], w[2], l[2], a[2]),
+        activity_of(h[3], w[3], l[3], a[3]),
+        activity_of(h[4], w[4], l[4], a[4]),
+        activity_of(h[5], w[5], l[5], a[5]),
+        activity_of(h[6], w[6], l[6], a[6]),
+        activity_of(h[7], w[7], l[7], a[7]),
     ]
 }
 
-fn remainder_row(r: [u16; 8]) -> [u16; 8]
+fn remainder_row(r: Row) -> Row
     ensures { λ n. ⌜ n ≡ eight (λ k. getD r k 0 - 1) ⌝ }
 {
     [
@@ -149,7 +150,7 @@ fn remainder_row(r: [u16; 8]) -> [u16; 8]
     ]
 }
 
-fn soak_row(a: [u16; 8], f: [u16; 8], r: [u16; 8], s: [u16; 8]) -> [u16; 8]
+fn soak_row(a: Row, f: Row, r: Row, s: Row) -> Row
     ensures { λ n. ⌜ n ≡ eight (λ k. soakAfter (good (isSet (getD a k 0)) (isSet (getD f k 0)) (getD r k 0)) (getD s k 0)) ⌝ }
 {
     [
@@ -167,23 +168,23 @@ fn soak_row(a: [u16; 8], f: [u16; 8], r: [u16; 8], s: [u16; 8]) -> [u16; 8]
 // The rule `watched`: steps 1 and 2, in the rows where they lie, with the buckets of these four rows.
 pub fn watched(
     mask: u8,
-    level: &mut [u16; 8],
-    decay: &mut [u16; 8],
-    active: &mut [u16; 8],
-    frequency: &[u16; 8],
-    remainder: &mut [u16; 8],
-    soak: &mut [u16; 8],
-    sizes: &[u16; 8],
-    highs: &[u16; 8],
-    lows: &[u16; 8],
-    lasts: &[u16; 8],
+    level: &mut Row,
+    decay: &mut Row,
+    activity: &mut Row,
+    frequency: &Row,
+    remainder: &mut Row,
+    soak: &mut Row,
+    sizes: &Row,
+    highs: &Row,
+    lows: &Row,
+    lasts: &Row,
 )
-    ensures { λ _. ⌜ across level decay active (now (frequency .entry)) remainder soak (λ before after. inputsOf after ≡ Tick.watched (λ i. bucketAt (now (sizes .entry)) (now (highs .entry)) (now (lows .entry)) (now (lasts .entry)) (i - 1)) mask (inputsOf before)) ⌝ }
+    ensures { λ _. ⌜ inputsOf (leaving level decay activity (now (frequency .entry)) remainder soak) ≡ Tick.watched (λ i. bucketAt (now (sizes .entry)) (now (highs .entry)) (now (lows .entry)) (now (lasts .entry)) (i - 1)) mask (inputsOf (entering level decay activity (now (frequency .entry)) remainder soak)) ⌝ }
 {
     let b = irregular_row(mask);
     let l0 = *level;
     let d0 = *decay;
-    let a0 = *active;
+    let a0 = *activity;
     let f0 = *frequency;
     let r0 = *remainder;
     let s0 = *soak;
@@ -193,12 +194,12 @@ pub fn watched(
     let last = *lasts;
     let l = level_row(size, last, b, l0, d0);
     let d = decay_row(last, b, d0);
-    let a = active_row(high, low, l, a0);
+    let a = activity_row(high, low, l, a0);
     let r = remainder_row(r0);
     let s = soak_row(a, f0, r, s0);
     *level = l;
     *decay = d;
-    *active = a;
+    *activity = a;
     *remainder = r;
     *soak = s;
 }

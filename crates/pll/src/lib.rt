@@ -13,59 +13,59 @@ ghost use mathlib.Core.Bool.{not, _&&_, _||_};
 ghost use lib.Dec.{eqb};
 
 // The states, by the number that 0x48 shows.
-pub const FREE_RUN: u16 = 0;
+pub const FREE_RUN: u32 = 0;
 
-pub const HOLDOVER: u16 = 1;
+pub const HOLDOVER: u32 = 1;
 
-pub const PRE_LOCKED: u16 = 2;
+pub const PRE_LOCKED: u32 = 2;
 
-pub const LOCKED: u16 = 3;
+pub const LOCKED: u32 = 3;
 
-pub const LOSS_OF_LOCK: u16 = 4;
+pub const LOSS_OF_LOCK: u32 = 4;
 
-pub const PRE_LOCKED_2: u16 = 5;
+pub const PRE_LOCKED_2: u32 = 5;
 
 // The lock run of Locked.
-const LOCK_TICKS: u16 = 16;
+const LOCK_TICKS: u32 = 16;
 // The unlock run that sets a lock alarm: 100 s.
-const UNLOCK_TICKS: u16 = 782;
+const UNLOCK_TICKS: u32 = 782;
 // 255 hours of 28,125 ticks: the count of ticks in Holdover stops here.
 const HOLDING_LIMIT: u32 = 7_171_875;
 
-// The unlock run, the state's number and the lock run. All of one width: a struct of 8 bytes or less whose size is a power of two is passed as one number,
-// and its fields are then cut out by shifts.
+// The unlock run, the state's number and the lock run. Wider than they need be: three numbers of one width leave no padding, and a struct whose size is a power
+// of two up to 8 bytes would be passed as one number, its fields cut out by shifts.
 #[repr(C)]
 pub struct Loop {
-    pub unlock: u16,
-    pub mode: u16,
-    pub lock: u16,
+    pub unlock: u32,
+    pub mode: u32,
+    pub lock: u32,
 }
 
 // ---- the state
 
 // The state is Free Run.
-pub fn is_free_run(mode: u16) -> bool
+pub fn is_free_run(mode: u32) -> bool
     ensures { λ r. ⌜ r ≡ is freeRun (modeOf mode) ⌝ }
 {
     mode == FREE_RUN
 }
 
 // The state is Holdover.
-pub fn is_holdover(mode: u16) -> bool
+pub fn is_holdover(mode: u32) -> bool
     ensures { λ r. ⌜ r ≡ is holdover (modeOf mode) ⌝ }
 {
     mode == HOLDOVER
 }
 
 // The state is Locked.
-pub fn is_locked(mode: u16) -> bool
+pub fn is_locked(mode: u32) -> bool
     ensures { λ r. ⌜ r ≡ is locked (modeOf mode) ⌝ }
 {
     mode == LOCKED
 }
 
 // The state's number as 0x48 shows it. A stored number past 5, which no event leaves, reads as Pre-locked 2.
-pub fn mode_number(mode: u16) -> u8
+pub fn mode_number(mode: u32) -> u8
     ensures { λ r. ⌜ r ≡ modeNumber (modeOf mode) ⌝ }
 {
     if PRE_LOCKED_2 < mode {
@@ -88,14 +88,14 @@ pub fn fresh_loop() -> Loop
 // ---- step 3
 
 // "Locked becomes Loss of lock".
-pub fn unlocked(mode: u16) -> u16
+pub fn unlocked(mode: u32) -> u32
     ensures { λ r. ⌜ modeOf r ≡ rules.unlocked (modeOf mode) ⌝ }
 {
     if is_locked(mode) { LOSS_OF_LOCK } else { mode }
 }
 
 // "lock run +1 up to 16".
-fn longer_lock(run: u16) -> u16
+fn longer_lock(run: u32) -> u32
     ensures { λ r. ⌜ r ≡ min lockTicks (run + 1) ⌝ }
 {
     if run < LOCK_TICKS {
@@ -106,7 +106,7 @@ fn longer_lock(run: u16) -> u16
 }
 
 // "unlock run +1"; it stops at 782.
-fn longer_unlock(run: u16) -> u16
+fn longer_unlock(run: u32) -> u32
     ensures { λ r. ⌜ r ≡ min unlockTicks (run + 1) ⌝ }
 {
     if run < UNLOCK_TICKS {
@@ -152,14 +152,14 @@ pub fn alarm_due(p: Loop) -> bool
 // ---- step 4
 
 // With nothing selected: "Holdover if Ready, otherwise Free Run".
-pub fn unselected_mode(ready: bool) -> u16
+pub fn unselected_mode(ready: bool) -> u32
     ensures { λ r. ⌜ modeOf r ≡ unselectedMode ready ⌝ }
 {
     if ready { HOLDOVER } else { FREE_RUN }
 }
 
 // "Op_Mode 0 in manual, or selected 9, is Free Run."
-fn freed(automatic: bool, opmode: u8, next: u8) -> bool
+fn freed(automatic: bool, opmode: u8, next: u32) -> bool
     ensures { λ r. ⌜ r ≡ ((not automatic && eqb opmode 0) || eqb next 9) ⌝ }
 {
     if automatic {
@@ -172,7 +172,7 @@ fn freed(automatic: bool, opmode: u8, next: u8) -> bool
 }
 
 // "A newly selected reference starts Pre-locked if the state was Free Run, else Pre-locked 2."
-fn newly_selected(mode: u16) -> u16
+fn newly_selected(mode: u32) -> u32
     ensures { λ r. ⌜ modeOf r ≡ (if is freeRun (modeOf mode) then preLocked else preLocked2) ⌝ }
 {
     if is_free_run(mode) {
@@ -183,7 +183,7 @@ fn newly_selected(mode: u16) -> u16
 }
 
 // The state where `before` was selected and `next` now is.
-pub fn mode_after(automatic: bool, opmode: u8, ready: bool, before: u8, next: u8, mode: u16) -> u16
+pub fn mode_after(automatic: bool, opmode: u8, ready: bool, before: u32, next: u32, mode: u32) -> u32
     ensures { λ r. ⌜ modeOf r ≡ modeAfter automatic opmode ready before next (modeOf mode) ⌝ }
 {
     if freed(automatic, opmode, next) {
@@ -199,7 +199,7 @@ pub fn mode_after(automatic: bool, opmode: u8, ready: bool, before: u8, next: u8
 }
 
 // "Both runs restart at 0 when the selection changes."
-pub fn steered(automatic: bool, opmode: u8, ready: bool, before: u8, next: u8, p: Loop) -> Loop
+pub fn steered(automatic: bool, opmode: u8, ready: bool, before: u32, next: u32, p: Loop) -> Loop
     ensures { λ r. ⌜ loopOf r ≡ selection.steered automatic opmode ready before next (loopOf p) ⌝ }
 {
     let mode = mode_after(automatic, opmode, ready, before, next, p.mode);
@@ -242,7 +242,7 @@ fn longer_holding(holding: u32) -> u32
 }
 
 // The ticks in Holdover "after the entering event": the tick that enters does not count.
-pub fn holding_after(before: u16, after: u16, holding: u32) -> u32
+pub fn holding_after(before: u32, after: u32, holding: u32) -> u32
     ensures { λ r. ⌜ r ≡ holdingAfter (modeOf before) (modeOf after) holding ⌝ }
 {
     if is_holdover(before) {

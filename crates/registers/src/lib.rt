@@ -1,13 +1,26 @@
 // The registers (document 01, "Registers"): their table, and what the settings say.
-// A unit keeps one byte for each register, in address order: 0x1c to 0x27, then 0x40 to 0x4e. The rules' settings are `settingsFrom` of the 27 bytes.
+// A unit keeps one byte for each register, in address order: 0x1c to 0x27, then 0x40 to 0x4e. The rules' settings are `settingsFrom` of these bytes.
 // The bytes of 0x26 and of the registers that are read only stay 0: what these show is kept elsewhere.
 ghost use mathlib.Core.Path.{_≡_};
 ghost use Prim.Native.Nat.{_+_};
-ghost use lib.ListN.{length, getD};
+ghost use lib.ListN.{getD};
 ghost use Rattle.rules.specs.Settings as settings;
 ghost use Rattle.rules.specs.Registers as rules;
 ghost use Rattle.rules.specs.Registers.{settingsFrom, freshTable};
 ghost use Rattle.registers.specs.Bridge.{row};
+
+// How many registers there are.
+pub const REGISTERS: usize = 27;
+
+// The bytes that a unit keeps of them: a slot for each register, and some more, which stay 0 and fill the unit up to a multiple of eight bytes.
+pub type Registers = [u8; 32];
+
+// The slots of registers that are read by their slot.
+pub const FREE_RUN_SLOT: usize = 8;
+pub const COMMAND_SLOT: usize = 10;
+pub const MASK_SLOT: usize = 14;
+pub const REJECT_SLOT: usize = 16;
+pub const QUALIFICATION_SLOT: usize = 17;
 
 // A row of the table: the columns Fresh, R and Largest.
 pub struct Register {
@@ -84,7 +97,7 @@ const READ_ONLY: Register = Register {
 };
 
 // The table, in address order.
-const TABLE: [Register; 27] = [
+const TABLE: [Register; REGISTERS] = [
     INPUT, // 0x1c
     INPUT, // 0x1d
     INPUT, // 0x1e
@@ -114,37 +127,37 @@ const TABLE: [Register; 27] = [
     READ_ONLY, // 0x4e
 ];
 
-// The place of an address in the map, 0 to 26; 27 for an address that is not in it.
-pub fn place(a: u8) -> usize
+// The slot of an address in the map, 0 to 26; 27 for an address that is not in it.
+pub fn slot(a: u8) -> usize
     ensures { λ r. ⌜ r ≡ rules.slot a ⌝ }
 {
     if a < 0x1c {
-        return 27;
+        return REGISTERS;
     }
     if a <= 0x27 {
         return (a - 0x1c) as usize;
     }
     if a < 0x40 {
-        return 27;
+        return REGISTERS;
     }
     if a <= 0x4e {
         return (a - 0x34) as usize;
     }
-    27
+    REGISTERS
 }
 
 // Whether an address is in the map.
 pub fn in_map(a: u8) -> bool
     ensures { λ r. ⌜ r ≡ rules.inMap a ⌝ }
 {
-    place(a) < 27
+    slot(a) < REGISTERS
 }
 
-// A register's row by its place in the map; past the map, the row of one that is read only.
+// A register's row by its slot; past the map, the row of one that is read only.
 pub fn row_at(k: usize) -> Register
     ensures { λ r. ⌜ r ≡ row (getD rules.registers k (rules.reads 0)) ⌝ }
 {
-    if k < 27 {
+    if k < REGISTERS {
         return TABLE[k];
     }
     READ_ONLY
@@ -154,16 +167,16 @@ pub fn row_at(k: usize) -> Register
 pub fn register_at(a: u8) -> Register
     ensures { λ r. ⌜ r ≡ row (rules.register a) ⌝ }
 {
-    row_at(place(a))
+    row_at(slot(a))
 }
 
 // The registers of the standard fresh unit: the column Fresh.
-pub fn fresh_registers() -> [u8; 27]
-    ensures { λ r. ⌜ r ≡ freshTable ⌝ }
+pub fn fresh_registers() -> Registers
+    ensures { λ r. ⌜ settingsFrom r ≡ settingsFrom freshTable ⌝ }
 {
     let table = TABLE;
-    let mut regs = [0u8; 27];
-    for k in 0..27 {
+    let mut regs = [0u8; 32];
+    for k in 0..REGISTERS {
         regs[k] = table[k].fresh;
     }
     regs
@@ -171,45 +184,33 @@ pub fn fresh_registers() -> [u8; 27]
 
 // ---- the settings
 
-// The registers are 27 bytes: what their type says, as a fact. It costs nothing when compiled.
-pub fn bytes(regs: [u8; 27]) -> usize
-    ensures { λ r. ⌜ length regs ≡ 27 ⌝ }
-{
-    regs.len()
-}
-
-// The setting at an address; 0 at an address that is not in the map.
-pub fn setting(regs: &[u8; 27], a: u8) -> u8
+// The setting at an address. An address that is not in the map has the byte behind the last register.
+pub fn setting(regs: &Registers, a: u8) -> u8
     ensures { λ r. ⌜ r ≡ settingsFrom (now (regs .entry)) a ⌝ }
 {
-    let k = place(a);
-    if k < 27 {
-        return regs[k];
-    }
-    bytes(*regs);
-    0
+    let k = slot(a);
+    regs[k]
 }
 
 // 0x40: automatic control.
-pub fn is_automatic(regs: &[u8; 27]) -> bool
+pub fn is_automatic(regs: &Registers) -> bool
     ensures { λ r. ⌜ r ≡ settings.automatic (settingsFrom (now (regs .entry))) ⌝ }
 {
     setting(regs, 0x40) == 1
 }
 
 // The register of candidate c, 0x1b + c: 0x1c to 0x23 for the inputs 1 to 8, 0x24 for Free Run, 9. An address past 255 is not in the map.
-fn own_register(regs: &[u8; 27], c: u8) -> u8
+fn own_register(regs: &Registers, c: u32) -> u8
     ensures { λ r. ⌜ r ≡ settingsFrom (now (regs .entry)) (0x1b + c) ⌝ }
 {
     if c <= 228 {
-        return setting(regs, 0x1b + c);
+        return setting(regs, 0x1b + c as u8);
     }
-    bytes(*regs);
-    0
+    regs[REGISTERS]
 }
 
 // Bit 3 of candidate c's register: revertive.
-pub fn is_revertive(regs: &[u8; 27], c: u8) -> bool
+pub fn is_revertive(regs: &Registers, c: u32) -> bool
     ensures { λ r. ⌜ r ≡ settings.revertive (settingsFrom (now (regs .entry))) c ⌝ }
 {
     own_register(regs, c) / 8 % 2 == 1

@@ -3,57 +3,63 @@
 // registers.
 ghost use mathlib.Core.Path.{_≡_};
 ghost use Prim.Native.Nat.{_-_};
+ghost use Rattle.rules.specs.Settings.{delay, reversion};
 ghost use Rattle.rules.specs.Week.{busy};
 ghost use Rattle.rules.specs.Selection as selection;
 ghost use Rattle.rules.specs.Selection.{waitAfter};
 ghost use Rattle.rules.specs.Registers.{settingsFrom};
 ghost use Rattle.inputs.specs.Bridge.{inputsOf, withSoak};
 ghost use Rattle.inputs.specs.declared.Monitors as stored;
-ghost use Rattle.candidates.specs.Keys.{keysFrom};
+ghost use Rattle.waits.specs.Handed.{ticksOf};
 ghost use Rattle.week.specs.Bridge.{windowsOf};
-ghost use Rattle.selection.specs.Bridge.{choiceOf};
+ghost use Rattle.selection.specs.Bridge.{choiceOf, Follows};
 use arith::both;
+use arith::wide32;
+use candidates::Keys;
 use candidates::best_of;
 use candidates::is_candidate;
+use inputs::Row;
 use inputs::qualified_at;
+use registers::Registers;
 use registers::is_automatic;
 use registers::is_revertive;
 use registers::setting;
-use waits::delay_ticks;
+use waits::ticks_of;
+use week::Windows;
 use week::is_busy;
 
 // Two ticks more than the longest delay: the wait stops here.
-const WAIT_LIMIT: u64 = 119_534;
+const WAIT_LIMIT: u32 = 119_534;
 
-// What is selected, and the ticks waited for `aim`, the best that they count for. The wait is wider than it need be: see `Loop` of crates/pll.
+// What is selected, and the ticks waited for `awaited`, the best that they count for. Three numbers of one width: see `Loop` of crates/pll.
 #[repr(C)]
 pub struct Choice {
-    pub wait: u64,
-    pub selected: u8,
-    pub aim: u8,
+    pub wait: u32,
+    pub selected: u32,
+    pub awaited: u32,
 }
 
 // ---- the wait
 
 // The rule `settled`: selected, with the wait at 0.
-pub fn settled(c: u8) -> Choice
+pub fn settled(c: u32) -> Choice
     ensures { λ r. ⌜ choiceOf r ≡ selection.settled c ⌝ }
 {
     Choice {
         wait: 0,
         selected: c,
-        aim: 0,
+        awaited: 0,
     }
 }
 
 // The rule `waitAfter`: the wait for `b` with this tick, in a window or not. In one a wait over n for the same best stays.
-fn wait_after(blocked: bool, n: u64, b: u8, c: Choice) -> u64
+fn wait_after(blocked: bool, n: u32, b: u32, c: Choice) -> u32
     ensures { λ r. ⌜ r ≡ waitAfter blocked n b (choiceOf c) ⌝ }
 {
     if c.wait == 0 {
         return 1;
     }
-    if c.aim == b {
+    if c.awaited == b {
         if c.wait < WAIT_LIMIT {
             if both(blocked, n < c.wait) {
                 return c.wait;
@@ -66,33 +72,33 @@ fn wait_after(blocked: bool, n: u64, b: u8, c: Choice) -> u64
 }
 
 // One less, not below 0.
-fn less_one(n: u64) -> u64
+fn less_one(n: u32) -> u32
     ensures { λ r. ⌜ r ≡ n - 1 ⌝ }
 {
     if n == 0 { 0 } else { n - 1 }
 }
 
 // The rule `switches`: the wait is over.
-fn switches(n: u64, wait: u64) -> bool
+fn switches(n: u32, wait: u32) -> bool
     ensures { λ r. ⌜ r ≡ selection.switches n wait ⌝ }
 {
     n <= less_one(wait)
 }
 
 // The selected one stays, with this wait for `b`.
-fn waiting(wait: u64, b: u8, c: Choice) -> Choice
+fn waiting(wait: u32, b: u32, c: Choice) -> Choice
     ensures { λ r. ⌜ choiceOf r ≡ record { selected = c .selected; wait = wait; waitFor = b } ⌝ }
 {
     Choice {
         wait: wait,
         selected: c.selected,
-        aim: b,
+        awaited: b,
     }
 }
 
 // The rule `reverted`: the reversion to `b`, which waits for n ticks. The windows are looked at only where the wait is over: until then it rises in them as
 // outside.
-fn reverted(windows: &[u32; 16], place: u32, n: u64, b: u8, c: Choice) -> Choice
+fn reverted(windows: &Windows, place: u32, n: u32, b: u32, c: Choice) -> Choice
     ensures { λ r. ⌜ choiceOf r ≡ selection.reverted (busy (windowsOf (now (windows .entry))) place) n b (choiceOf c) ⌝ }
 {
     let wait = wait_after(false, n, b, c);
@@ -112,14 +118,15 @@ fn reverted(windows: &[u32; 16], place: u32, n: u64, b: u8, c: Choice) -> Choice
 // The rule `reselected`: automatic control, `b` being the best candidate. Where that is selected, it stays or is chosen, which is the same; the test comes
 // first, where the best is made, so that the compiler can make it of eight lanes side by side.
 fn reselected(
-    soak: &[u16; 8],
-    regs: &[u8; 27],
-    windows: &[u32; 16],
+    soak: &Row,
+    regs: &Registers,
+    handed: u32,
+    windows: &Windows,
     place: u32,
-    b: u8,
+    b: u32,
     c: Choice,
 ) -> Choice
-    ensures { λ r. ⌜ ((m : stored.Monitors) → choiceOf r ≡ selection.reselected (busy (windowsOf (now (windows .entry))) place) (settingsFrom (now (regs .entry))) (inputsOf (withSoak m (now (soak .entry)))) b (choiceOf c)) ⌝ }
+    ensures { λ r. ⌜ ((m : stored.Monitors) → ticksOf handed (delay (settingsFrom (now (regs .entry)))) ≡ reversion (settingsFrom (now (regs .entry))) → choiceOf r ≡ selection.reselected (busy (windowsOf (now (windows .entry))) place) (settingsFrom (now (regs .entry))) (inputsOf (withSoak m (now (soak .entry)))) b (choiceOf c)) ⌝ }
 {
     if c.selected == b {
         return settled(b);
@@ -128,7 +135,8 @@ fn reselected(
     if stands {
         let reverts = is_revertive(regs, c.selected);
         if reverts {
-            return reverted(windows, place, delay_ticks(setting(regs, 0x43)), b, c);
+            let n = ticks_of(handed, setting(regs, 0x43));
+            return reverted(windows, place, n, b, c);
         }
         return settled(c.selected);
     }
@@ -136,10 +144,10 @@ fn reselected(
 }
 
 // The rule `manual`.
-fn manual(soak: &[u16; 8], regs: &[u8; 27]) -> Choice
+fn manual(soak: &Row, regs: &Registers) -> Choice
     ensures { λ r. ⌜ ((m : stored.Monitors) → choiceOf r ≡ selection.manual (settingsFrom (now (regs .entry))) (inputsOf (withSoak m (now (soak .entry))))) ⌝ }
 {
-    let s = setting(regs, 0x41);
+    let s = wide32(setting(regs, 0x41));
     let good = qualified_at(soak, s);
     if good {
         return settled(s);
@@ -147,20 +155,21 @@ fn manual(soak: &[u16; 8], regs: &[u8; 27]) -> Choice
     settled(0)
 }
 
-// The rule `chosen`: the choice of a tick at a place, where the keys are those of the registers.
+// The rule `chosen`: the choice of a tick at a place, where keys and delay follow from the registers.
 pub fn chosen(
-    soak: &[u16; 8],
-    regs: &[u8; 27],
-    keys: &[u16; 9],
-    windows: &[u32; 16],
+    soak: &Row,
+    regs: &Registers,
+    keys: &Keys,
+    handed: u32,
+    windows: &Windows,
     place: u32,
     c: Choice,
 ) -> Choice
-    ensures { λ r. ⌜ ((m : stored.Monitors) → now (keys .entry) ≡ keysFrom (settingsFrom (now (regs .entry))) → choiceOf r ≡ selection.chosen (busy (windowsOf (now (windows .entry))) place) (settingsFrom (now (regs .entry))) (inputsOf (withSoak m (now (soak .entry)))) (choiceOf c)) ⌝ }
+    ensures { λ r. ⌜ ((m : stored.Monitors) → Follows (settingsFrom (now (regs .entry))) (now (keys .entry)) handed → choiceOf r ≡ selection.chosen (busy (windowsOf (now (windows .entry))) place) (settingsFrom (now (regs .entry))) (inputsOf (withSoak m (now (soak .entry)))) (choiceOf c)) ⌝ }
 {
     let auto = is_automatic(regs);
     if auto {
-        return reselected(soak, regs, windows, place, best_of(soak, keys), c);
+        return reselected(soak, regs, handed, windows, place, best_of(soak, keys), c);
     }
     manual(soak, regs)
 }

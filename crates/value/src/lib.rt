@@ -1,15 +1,18 @@
 // The holdover value (document 01, "History (step 5)"): the mean of the kept samples, rounded down, and its 32 bits as 0x4a to 0x4d show them.
 // Each contract is an equation with a rule of crates/rules/specs; the rule is named above the function.
 ghost use mathlib.Core.Path.{_≡_};
+ghost use mathlib.Core.List.{List};
 ghost use Prim.Native.Nat.{_/_, _^_, _<_};
+ghost use lib.IntN.{ℤ};
 ghost use lib.Signed.{shrZ};
 ghost use Rattle.rules.specs.History.{sumOf, value};
 ghost use Rattle.rules.specs.Reading.{twos};
-ghost use Rattle.history.specs.Bridge.{keptOf, wholeOf};
+ghost use Rattle.history.specs.Bridge.{keptOf, historyOf};
 ghost use Rattle.value.specs.Signed.{bySign};
 use arith::least;
 use arith::wide16;
-use history::History;
+use history::Sums;
+use history::Tally;
 use history::within;
 
 // ---- whole numbers
@@ -80,7 +83,7 @@ pub fn twos(z: i64) -> u32
 // ---- the value
 
 // `sumOf` the block sums in use.
-pub fn total(sums: [i64; 64], count: u16) -> i64
+pub fn total(sums: Sums, count: u16) -> i64
     ensures { λ r. ⌜ r ≡ sumOf (keptOf sums count) ⌝ }
 {
     let n = least(count, 64) as usize;
@@ -94,11 +97,10 @@ pub fn total(sums: [i64; 64], count: u16) -> i64
 }
 
 // `value`: the greatest whole number not above the mean of the kept samples; 0 where no block is kept.
-pub fn value(h: History) -> i64
-    ensures { λ r. ⌜ r ≡ value (wholeOf h) ⌝ }
+pub fn value(t: Tally, sums: Sums) -> i64
+    ensures { λ r. ⌜ ((building backup : List ℤ) → r ≡ value (historyOf t sums building backup)) ⌝ }
 {
-    let sums = h.sums;
-    let count = wide16(h.tally.count);
+    let count = wide16(t.count);
     let n = least(count, 64) as u64;
     floor_div(total(sums, count), 128 * n)
 }

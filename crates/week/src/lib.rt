@@ -1,35 +1,30 @@
 // The week of the busy hours (document 02, #107): whether a place lies in a window, the place after a tick, the one check of the calls, and what is stored of
 // windows that pass it. Places and windows are in ticks from the week's start.
 ghost use mathlib.Core.Path.{_≡_};
-ghost use mathlib.Core.Bool.{true, _&&_, _||_};
+ghost use mathlib.Core.Bool.{_&&_};
+ghost use mathlib.Core.List.{[]};
 ghost use Prim.Native.Nat.{_+_, _≤_};
 ghost use lib.Dec.{leb, ltb};
 ghost use Rattle.rules.specs.Words.{if_then_else_};
 ghost use Rattle.rules.specs.Week as rules;
-ghost use Rattle.rules.specs.Week.{weekTicks, ascending, startsWeek, endsWeek, windowsFit, firstWindows};
+ghost use Rattle.rules.specs.Week.{weekTicks, ascending, startsWeek, endsWeek, firstWindows};
 ghost use Rattle.rules.specs.Refusals.{weekRefusal, windowsRefusal};
-ghost use Rattle.week.specs.Bridge.{windowsOf, weekOf};
+ghost use Rattle.week.specs.Bridge.{windowsOf, keptNumbers};
 use arith::both;
+use arith::one_of;
 use arith::wide64;
 
 // "A week is 4,725,000 ticks".
 const WEEK: u32 = 4_725_000;
 
-// The place of the next tick, and start and end of each window in turn. An unused pair is 0 and 0; a pair whose start is not before its end is no window.
-#[repr(C)]
-pub struct Week {
-    pub place: u32,
-    pub windows: [u32; 16],
-}
+// Start and end of each window in turn. An unused pair is 0 and 0; a pair whose start is not before its end is no window.
+pub type Windows = [u32; 16];
 
-// "fresh 0, with no windows"
-pub fn fresh_week() -> Week
-    ensures { λ r. ⌜ weekOf (r .place) (r .windows) ≡ rules.freshWeek ⌝ }
+// "with no windows"
+pub fn no_windows() -> Windows
+    ensures { λ r. ⌜ windowsOf r ≡ [] ⌝ }
 {
-    Week {
-        place: 0,
-        windows: [0; 16],
-    }
+    [0; 16]
 }
 
 // ---- the place
@@ -41,15 +36,8 @@ fn in_window(start: u32, end: u32, place: u32) -> bool
     both(start <= place, place < end)
 }
 
-// One of two tests passes.
-fn one_of(a: bool, b: bool) -> bool
-    ensures { λ r. ⌜ r ≡ (a || b) ⌝ }
-{
-    if a { true } else { b }
-}
-
 // The rule `busy`: the place lies in one of the windows.
-pub fn is_busy(windows: &[u32; 16], place: u32) -> bool
+pub fn is_busy(windows: &Windows, place: u32) -> bool
     ensures { λ r. ⌜ r ≡ rules.busy (windowsOf (now (windows .entry))) place ⌝ }
 {
     let w = *windows;
@@ -101,7 +89,7 @@ fn follows(from: u32, start: u32, end: u32) -> bool
 }
 
 // The rule `ascending` of the first `count` windows: each is one of the week and starts after the end of the one before it.
-fn ascends(count: u8, windows: &[u32; 16]) -> bool
+fn ascends(count: u8, windows: &Windows) -> bool
     requires { ⌜ count ≤ 8 ⌝ }
     ensures { λ r. ⌜ r ≡ ascending 0 (firstWindows count (now (windows .entry))) ⌝ }
 {
@@ -118,7 +106,7 @@ fn ascends(count: u8, windows: &[u32; 16]) -> bool
 }
 
 // "first at 0 with last ending the week"
-fn meets_itself(count: u8, windows: &[u32; 16]) -> bool
+fn meets_itself(count: u8, windows: &Windows) -> bool
     requires { ⌜ count ≤ 8 ⌝ }
     ensures { λ r. ⌜ r ≡ (startsWeek (firstWindows count (now (windows .entry))) && endsWeek (firstWindows count (now (windows .entry)))) ⌝ }
 {
@@ -130,7 +118,7 @@ fn meets_itself(count: u8, windows: &[u32; 16]) -> bool
 }
 
 // 16 for windows that the check does not let through, else 0.
-pub fn windows_refusal(count: u8, windows: &[u32; 16]) -> u8
+pub fn windows_refusal(count: u8, windows: &Windows) -> u8
     ensures { λ r. ⌜ r ≡ windowsRefusal (firstWindows count (now (windows .entry))) ⌝ }
 {
     if count > 8 {
@@ -154,9 +142,9 @@ fn if_kept(keep: bool, x: u32) -> u32
     if keep { x } else { 0 }
 }
 
-// The first `count` windows, and 0 and 0 for the others.
-pub fn kept(count: u8, windows: &[u32; 16]) -> [u32; 16]
-    ensures { λ r. ⌜ (windowsFit (firstWindows count (now (windows .entry))) ≡ true → windowsOf r ≡ firstWindows count (now (windows .entry))) ⌝ }
+// The first `count` windows, and 0 and 0 for the others: those that the check lets through are stored whole (`stored-windows` in proofs/Storing).
+pub fn kept(count: u8, windows: &Windows) -> Windows
+    ensures { λ r. ⌜ r ≡ keptNumbers count (now (windows .entry)) ⌝ }
 {
     let n = 2 * wide64(count);
     let mut stored = [0u32; 16];

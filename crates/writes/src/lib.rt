@@ -7,11 +7,12 @@ ghost use Rattle.rules.specs.Words.{if_then_else_};
 ghost use Rattle.rules.specs.Registers as rules;
 ghost use Rattle.rules.specs.Registers.{settingsFrom};
 ghost use Rattle.rules.specs.Refusals.{limitsRefused, commandRefused, writeRefusal};
-use registers::bytes;
+use registers::REGISTERS;
+use registers::Registers;
 use registers::in_map;
-use registers::place;
 use registers::register_at;
 use registers::setting;
+use registers::slot;
 
 // What a write stores: "inputs 1 to 8: .. bits 7-4 ignored, read 0".
 fn stored(a: u8, v: u8) -> u8
@@ -22,12 +23,11 @@ fn stored(a: u8, v: u8) -> u8
 
 // The registers after a write that was not turned down, of any address but 0x26, which is a command to the history.
 // Of an address that is not in the map nothing is stored.
-pub fn written(regs: &mut [u8; 27], a: u8, v: u8)
+pub fn written(regs: &mut Registers, a: u8, v: u8)
     ensures { λ _. ⌜ settingsFrom (now (regs .exit)) ≡ (if rules.inMap a then rules.written a v (settingsFrom (now (regs .entry))) else settingsFrom (now (regs .entry))) ⌝ }
 {
-    let k = place(a);
-    if k < 27 {
-        bytes(*regs);
+    let k = slot(a);
+    if k < REGISTERS {
         regs[k] = stored(a, v);
     }
 }
@@ -40,7 +40,7 @@ pub fn limits_apart(reject: u8, qualification: u8) -> bool
 }
 
 // 4: "reject − qualification would be under 6".
-fn limits_refused(regs: &[u8; 27], a: u8, v: u8) -> bool
+fn limits_refused(regs: &Registers, a: u8, v: u8) -> bool
     ensures { λ r. ⌜ r ≡ limitsRefused (settingsFrom (now (regs .entry))) a v ⌝ }
 {
     if a == 0x44 {
@@ -90,7 +90,7 @@ fn first_refusal(outside: bool, readonly: bool, above: bool, limits: bool, comma
 }
 
 // What a write is turned down with, or 0.
-pub fn write_refusal(regs: &[u8; 27], a: u8, v: u8, ready: bool, held: bool) -> u8
+pub fn write_refusal(regs: &Registers, a: u8, v: u8, ready: bool, held: bool) -> u8
     ensures { λ r. ⌜ r ≡ writeRefusal (settingsFrom (now (regs .entry))) ready held a v ⌝ }
 {
     let register = register_at(a);
