@@ -6,7 +6,7 @@ use mathlib.Core.Bool.{true, false}
 use mathlib.Core.List.{List, [], _∷_, _++_}
 use lib.IntN.{pos}
 use lib.ListN.{replicate}
-use Rattle.rules.specs.Events.{Event, tick, measurement, write, setBucket, assignBucket, setWeek, setWindows}
+use Rattle.rules.specs.Events.{Event, tickWith, measurement, write, setBucket, assignBucket, setWeek, setWindows}
 use Rattle.rules.specs.Monitors.{alarmTicks}
 use Rattle.rules.specs.Week.{longest}
 use Rattle.rules.specs.Inputs.{input}
@@ -23,7 +23,7 @@ unfoldable pub settings : List Event
 settings = write 0x40 1 ∷ write 0x43 1 ∷ write 0x42 0b11 ∷ write 0x1d 0b1001 ∷ measurement 1 (pos 0) ∷ measurement 2 (pos 0) ∷ []
 
 unlocked : ℕ → List Event
-unlocked k = replicate k (tick 0 false (pos 0))
+unlocked k = replicate k (tickWith 0 false (pos 0))
 
 -- 79 ticks qualify both, and 1 is selected; 782 more without lock set its lock alarm, and 2 is selected.
 unfoldable pub alarmed : List Event
@@ -63,7 +63,7 @@ WindowSet = Holds (longest (moment windowed .week .windows) is 100 ∷ moment wi
 
 -- from the moment on: k ticks, irregular for no input, that report lock
 abbrev pub oneTick : Event
-oneTick = tick 0 true (pos 0)
+oneTick = tickWith 0 true (pos 0)
 
 abbrev pub ticks : ℕ → List Event
 ticks k = replicate k oneTick

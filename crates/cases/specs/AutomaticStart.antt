@@ -4,7 +4,7 @@ use mathlib.Core.Bool.{true}
 use mathlib.Core.List.{List, [], _∷_, _++_}
 use lib.IntN.{pos}
 use lib.ListN.{replicate}
-use Rattle.rules.specs.Events.{tick, measurement}
+use Rattle.rules.specs.Events.{tickWith, measurement}
 use Rattle.rules.specs.State.{State}
 use Rattle.rules.specs.Reading.{read}
 use Rattle.rules.specs.Run.{run}
@@ -21,7 +21,7 @@ buyers =
 
 -- after so many ticks
 abbrev after : ℕ → State
-after k = run (freshFrom buyers) (measurement 1 (pos 0) ∷ replicate k (tick 0 true (pos 0)))
+after k = run (freshFrom buyers) (measurement 1 (pos 0) ∷ replicate k (tickWith 0 true (pos 0)))
 
 unfoldable pub table : List Row
 table =

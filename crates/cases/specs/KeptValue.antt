@@ -4,7 +4,7 @@ use mathlib.Core.Bool.{true, false}
 use mathlib.Core.List.{List, [], _∷_, _++_}
 use lib.IntN.{pos}
 use lib.ListN.{replicate}
-use Rattle.rules.specs.Events.{Event, tick}
+use Rattle.rules.specs.Events.{Event, tickWith}
 use Rattle.rules.specs.Monitors.{Input, fullSoak}
 use Rattle.rules.specs.Pll.{freeRun, holdover, locked, lockTicks}
 use Rattle.rules.specs.Selection.{settled}
@@ -35,11 +35,11 @@ nearlyReady =
 
 -- that sample
 abbrev lastSample : List Event
-lastSample = tick 0 true (pos 7) ∷ []
+lastSample = tickWith 0 true (pos 7) ∷ []
 
 -- then 1 stops, 2 is selected and Locked, and 2 stops too
 abbrev bothStop : List Event
-bothStop = lastSample ++ replicate 6 (tick 0b01 false (pos 0)) ++ replicate 16 (tick 0b01 true (pos 9)) ++ replicate 6 (tick 0b11 false (pos 0))
+bothStop = lastSample ++ replicate 6 (tickWith 0b01 false (pos 0)) ++ replicate 16 (tickWith 0b01 true (pos 9)) ++ replicate 6 (tickWith 0b11 false (pos 0))
 
 unfoldable pub table : List Row
 table =

@@ -4,7 +4,7 @@ use mathlib.Core.Bool.{Bool, true, false}
 use mathlib.Core.List.{List, [], _∷_, _++_}
 use lib.IntN.{ℤ, pos, negℤ}
 use lib.ListN.{replicate}
-use Rattle.rules.specs.Events.{Event, tick, oldKind, write}
+use Rattle.rules.specs.Events.{Event, tickWith, oldKind, write}
 use Rattle.rules.specs.Settings.{delayTicks}
 use Rattle.rules.specs.Inputs.{input}
 use Rattle.rules.specs.History.{replaced, value, freshHistory}
@@ -44,13 +44,13 @@ writing a v s = refusal s (write a v)
 
 -- n ticks: irregular for input 1; clean for all inputs, without lock and with it
 abbrev irregular : ℕ → List Event
-irregular n = replicate n (tick 1 false (pos 0))
+irregular n = replicate n (tickWith 1 false (pos 0))
 
 abbrev clean : ℕ → List Event
-clean n = replicate n (tick 0 false (pos 0))
+clean n = replicate n (tickWith 0 false (pos 0))
 
 abbrev locked : ℕ → List Event
-locked n = replicate n (tick 0 true (pos 0))
+locked n = replicate n (tickWith 0 true (pos 0))
 
 -- a measurement of input i; document 02, #106: "Cases C and D are of the old kind"
 abbrev measured : ℕ → ℤ → List Event

@@ -2,17 +2,16 @@
 use Prim.Native.Nat.{ℕ, _+_, _-_, _≤_, _<_, min}
 use mathlib.Core.Path.{_≡_, refl, ap, sym, _∙_}
 use mathlib.Core.Logic.{_⊎_, inl, inr}
-use mathlib.Core.Bool.{Bool, true, false, not, _&&_, _||_}
+use mathlib.Core.Bool.{Bool, true, false, not, _||_}
 use native.Mathlib.Omega.{arith}
 use lib.Dec.{leb, eqb}
-use borrow.Author.Tests.{leb-true, leb-false, le-leb, lt-leb, eqb-false, eq-eqb, ne-eqb, not-false}
-use Rattle.rules.specs.Words.{if_then_else_}
+use borrow.Author.Tests.{leb-true, leb-false, le-leb, lt-leb, eq-eqb, ne-eqb, not-false}
 use Rattle.rules.specs.Settings.{Settings, automatic, revertive, reversion}
 use Rattle.rules.specs.Inputs.{Inputs}
 use Rattle.rules.specs.Selection.{Choice, candidate, best, settled, waitLimit, waitAfter, switches, reverted, reselected, chosen}
-use Rattle.rules.specs.BusyHours.{NoReversion, LostReference, Kept, OnlyReversions, WaitInWindow, BusyHours}
+use Rattle.rules.specs.BusyHours.{NoReversion, LostReference, Kept, OnlyReversions, BusyHours}
 use Rattle.rules.proofs.Tests.{if-case, by-test}
-use Rattle.rules.proofs.Chosen.{waiting, wait-one}
+use Rattle.rules.proofs.Chosen.{waiting}
 use Rattle.rules.proofs.Windows.{blocked-run}
 
 -- ---- the wait

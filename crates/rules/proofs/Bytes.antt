@@ -5,10 +5,11 @@ use native.Mathlib.Omega.{arith}
 use lib.Dec.{eqb}
 use Rattle.rules.specs.Monitors.{qualified}
 use Rattle.rules.specs.Pll.{Mode, modeNumber, freeRun, holdover, preLocked, locked, lossOfLock, preLocked2, is}
-use Rattle.rules.specs.Inputs.{input}
+use Rattle.rules.specs.Settings.{Settings}
+use Rattle.rules.specs.Inputs.{Inputs, input}
 use Rattle.rules.specs.Selection.{available}
-use Rattle.rules.specs.History.{held}
-use Rattle.rules.specs.State.{State, mode, Ready}
+use Rattle.rules.specs.History.{History, ready, held}
+use Rattle.rules.specs.State.{State, selected, mode, Ready}
 use Rattle.rules.specs.Registers.{inMap, readOnly}
 use Rattle.rules.specs.Reading.{maskUpTo, countUpTo, qualifiedMask, availableMask, availableCount, hours, stateByte, statusByte, valueByte}
 use Rattle.rules.specs.Reading.{shown, content, Answer, read}
@@ -41,61 +42,55 @@ mode-le lossOfLock = omega arith
 mode-le preLocked2 = omega arith
 
 -- 0x27, the hours in Holdover, is a byte
-hours-byte : (s : State) → hours s ≤ 255
+hours-byte : (m : Mode) (holding : ℕ) → hours m holding ≤ 255
 unfolding hours
-hours-byte s = if-le (is holdover (mode s)) (omega arith) (omega arith)
+hours-byte m holding = if-le (is holdover m) (omega arith) (omega arith)
 
 -- 0x46, the qualified mask, is a byte
-qualified-byte : (s : State) → qualifiedMask s ≤ 255
+qualified-byte : (inputs : Inputs) → qualifiedMask inputs ≤ 255
 unfolding qualifiedMask
-qualified-byte s = omega (arith, mask-lt (λ i. qualified (input (s .inputs) i)) 8)
+qualified-byte inputs = omega (arith, mask-lt (λ i. qualified (input inputs i)) 8)
 
 -- 0x47, the available mask, is a byte
-available-byte : (s : State) → availableMask s ≤ 255
+available-byte : (set : Settings) (inputs : Inputs) → availableMask set inputs ≤ 255
 unfolding availableMask
-available-byte s = omega (arith, mask-lt (available (s .settings) (s .inputs)) 8)
+available-byte set inputs = omega (arith, mask-lt (available set inputs) 8)
 
 -- 0x48, the state and what is selected: the upper digit is the state's number
-pub state-digit : (s : State) → stateByte s / 16 ≤ 5
+pub state-digit : (m : Mode) (selected : ℕ) → stateByte m selected / 16 ≤ 5
 unfolding stateByte
-state-digit s = omega (arith, mode-le (mode s))
+state-digit m selected = omega (arith, mode-le m)
 
 -- 0x49, alarms and Ready, has four bits
-pub status-bits : (s : State) → statusByte s < 16
+pub status-bits : (m : Mode) (isReady isHeld : Bool) → statusByte m isReady isHeld < 16
 unfolding statusByte
-status-bits s =
-    omega (
-      arith,
-      if-sum (is holdover (mode s) || is freeRun (mode s)) 1 0,
-      if-sum (is locked (mode s)) 0 2,
-      if-sum (Ready s) 4 0,
-      if-sum (held (s .history .backup)) 8 0,
-    )
+status-bits m isReady isHeld =
+    omega (arith, if-sum (is holdover m || is freeRun m) 1 0, if-sum (is locked m) 0 2, if-sum isReady 4 0, if-sum isHeld 8 0)
 
 -- 0x4a to 0x4d: each byte of the value is one
-value-byte : (s : State) (k : ℕ) → valueByte s k ≤ 255
+value-byte : (h : History) (k : ℕ) → valueByte h k ≤ 255
 unfolding valueByte
-value-byte s k = if-le (Ready s) (omega arith) (omega arith)
+value-byte h k = if-le (ready h) (omega arith) (omega arith)
 
 -- 0x4e, how many references are available, is a byte
-count-byte : (s : State) → availableCount s ≤ 255
+count-byte : (set : Settings) (inputs : Inputs) → availableCount set inputs ≤ 255
 unfolding availableCount
-count-byte s = omega (arith, count-le (available (s .settings) (s .inputs)) 8)
+count-byte set inputs = omega (arith, count-le (available set inputs) 8)
 
 -- each register that is read only shows a byte
 shown-byte : (s : State) (a : ℕ) → shown s a ≤ 255
 unfolding shown
 shown-byte s a =
-    if-le (eqb a 0x27) (hours-byte s)
-    (if-le (eqb a 0x46) (qualified-byte s)
-    (if-le (eqb a 0x47) (available-byte s)
-    (if-le (eqb a 0x48) (omega (arith, state-digit s))
-    (if-le (eqb a 0x49) (omega (arith, status-bits s))
-    (if-le (eqb a 0x4a) (value-byte s 0)
-    (if-le (eqb a 0x4b) (value-byte s 1)
-    (if-le (eqb a 0x4c) (value-byte s 2)
-    (if-le (eqb a 0x4d) (value-byte s 3)
-    (count-byte s)))))))))
+    if-le (eqb a 0x27) (hours-byte (mode s) (s .holding))
+    (if-le (eqb a 0x46) (qualified-byte (s .inputs))
+    (if-le (eqb a 0x47) (available-byte (s .settings) (s .inputs))
+    (if-le (eqb a 0x48) (omega (arith, state-digit (mode s) (selected s)))
+    (if-le (eqb a 0x49) (omega (arith, status-bits (mode s) (Ready s) (held (s .history .backup))))
+    (if-le (eqb a 0x4a) (value-byte (s .history) 0)
+    (if-le (eqb a 0x4b) (value-byte (s .history) 1)
+    (if-le (eqb a 0x4c) (value-byte (s .history) 2)
+    (if-le (eqb a 0x4d) (value-byte (s .history) 3)
+    (count-byte (s .settings) (s .inputs))))))))))
 
 -- each register of the map holds a byte
 content-byte : (s : State) → Lawful s → (a : ℕ) → content s a ≤ 255

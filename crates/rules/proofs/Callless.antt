@@ -74,10 +74,10 @@ setIn s = (s .buckets, s .week .windows)
 
 kept-next : (s : State) (e : Event) → isCall e ≡ false → setIn (next s e) ≡ setIn s
 unfolding next effect ticked step5 steps1to4 weekAfter afterMeasurement afterHit afterWrite
-kept-next s (tick mask lock x) p = if-case (λ (t : State). setIn t ≡ setIn s) (accepted s (tick mask lock x)) (λ e. refl) (λ e. refl)
+kept-next s (tick t) p = if-case (λ (u : State). setIn u ≡ setIn s) (accepted s (tick t)) (λ e. refl) (λ e. refl)
 kept-next s (measurement i x) p = if-case (λ (t : State). setIn t ≡ setIn s) (accepted s (measurement i x)) (λ e. refl) (λ e. refl)
 kept-next s hit p = if-case (λ (t : State). setIn t ≡ setIn s) (accepted s hit) (λ e. refl) (λ e. refl)
-kept-next s (write a v) p = if-case (λ (t : State). setIn t ≡ setIn s) (accepted s (write a v)) (λ e. refl) (λ e. refl)
+kept-next s (write a v) p = if-case (λ (t : State). setIn t ≡ setIn s) (accepted s (write a v)) (λ e. if-case (λ (t : State). setIn t ≡ setIn s) (eqb a 0x26) (λ c. refl) (λ c. refl)) (λ e. refl)
 kept-next s (setBucket n size setLevel clearLevel d) p = absurd (true≢false p)
 kept-next s (assignBucket i n) p = absurd (true≢false p)
 kept-next s (setWeek place) p = absurd (true≢false p)

@@ -9,21 +9,21 @@ use native.Mathlib.Omega.{arith}
 use lib.Dec.{eqb}
 use lib.IntN.{ℤ}
 use Rattle.rules.specs.Words.{if_then_else_, isTracked}
-use Rattle.rules.specs.Events.{Event, tick, measurement, hit, write, setBucket, assignBucket, setWeek, setWindows}
+use Rattle.rules.specs.Events.{Event, Tick, tick, measurement, hit, write, setBucket, assignBucket, setWeek, setWindows}
 use Rattle.rules.specs.Pll.{alarmDue}
 use Rattle.rules.specs.Settings.{Settings, policy}
 use Rattle.rules.specs.Week.{Week}
 use Rattle.rules.specs.Inputs.{Inputs}
 use Rattle.rules.specs.Selection.{Choice, chosen, unselectedLoop}
 use Rattle.rules.specs.Buckets.{bucketFrom, Buckets, setAt, withSet, withAssigned, putAtSize, having}
-use Rattle.rules.specs.History.{held, filling, commanded, freshHistory}
-use Rattle.rules.specs.State.{State, selected, Blocked, Ready}
+use Rattle.rules.specs.History.{History, held, filling, freshHistory}
+use Rattle.rules.specs.State.{State, selected, Blocked, Ready, withInputs, withBuckets, withSettings, withHistory, withWeek}
 use Rattle.rules.specs.Tick.{watchedAfter, loopAfter, inputsAfter, weekAfter, steps1to4, step5, ticked}
-use Rattle.rules.specs.Registers.{freshWith}
+use Rattle.rules.specs.Registers.{written, freshWith}
 use Rattle.rules.specs.Refusals.{commandRefused, refusal, accepted}
-use Rattle.rules.specs.Run.{afterMeasurement, afterHit, afterWrite, afterCall, afterSet, afterAssign, afterWeek, effect, next, run}
+use Rattle.rules.specs.Run.{afterMeasurement, afterHit, afterWrite, afterSet, afterAssign, effect, next, run}
 use Rattle.rules.specs.Laws.{SoundHistory, Lawful}
-use Rattle.rules.specs.OldHistory.{oldCommanded, withHistory, oldEffect, oldNext, oldRun}
+use Rattle.rules.specs.OldHistory.{oldEffect, oldNext, oldRun}
 use Rattle.rules.specs.Comparison.{NeverLessReady}
 use Rattle.rules.proofs.Tests.{by-test, clash, and-left, and-right}
 use Rattle.rules.proofs.Loading.{each-fresh}
@@ -46,27 +46,27 @@ module _ (o n : State) (t : Twin o n) (w : SoundHistory (n .history)) where
   twin-ready e = behind-ready (o .history) (n .history) (t .behind) w e
 
   -- a tick
-  module _ (mask : ℕ) (lock : Bool) where
-    driven-alike : LoopAlike (loopAfter lock o) (loopAfter lock n)
+  module _ (e : Tick) where
+    driven-alike : LoopAlike (loopAfter (e .lock) o) (loopAfter (e .lock) n)
     unfolding loopAfter
-    driven-alike = rw (t .choice-is) (alike-looped (isTracked (selected n)) lock (o .loop) (n .loop) (t .loops))
+    driven-alike = rw (t .choice-is) (alike-looped (isTracked (selected n)) (e .lock) (o .loop) (n .loop) (t .loops))
 
-    inputs-same : inputsAfter mask lock o ≡ inputsAfter mask lock n
+    inputs-same : inputsAfter (e .mask) (e .lock) o ≡ inputsAfter (e .mask) (e .lock) n
     unfolding inputsAfter watchedAfter alarmDue
     inputs-same = rw (driven-alike .unlock-is, t .choice-is, t .buckets-is, t .inputs-is) refl
 
-    choice-same : chosen (Blocked o) (o .settings) (inputsAfter mask lock o) (o .choice) ≡ chosen (Blocked n) (n .settings) (inputsAfter mask lock n) (n .choice)
+    choice-same : chosen (Blocked o) (o .settings) (inputsAfter (e .mask) (e .lock) o) (o .choice) ≡ chosen (Blocked n) (n .settings) (inputsAfter (e .mask) (e .lock) n) (n .choice)
     choice-same = rw (inputs-same, t .settings-is, t .choice-is, t .week-is) refl
 
-    loops-alike : LoopAlike (steps1to4 mask lock o .loop) (steps1to4 mask lock n .loop)
+    loops-alike : LoopAlike (steps1to4 e o .loop) (steps1to4 e n .loop)
     unfolding steps1to4
     loops-alike =
         alike-at (o .settings) (n .settings) (Ready o) (Ready n) (selected o) (selected n) _ _ _ _ (t .settings-is) (ap (λ (c : Choice). c .selected) (t .choice-is))
         (ap (λ (c : Choice). c .selected) choice-same) twin-ready driven-alike
 
-    twin-tick : (x : ℤ) → Twin (oldEffect o (tick mask lock x)) (ticked mask lock x n)
-    unfolding oldEffect withHistory ticked step5 steps1to4
-    twin-tick x =
+    twin-tick : Twin (oldEffect o (tick e)) (ticked e n)
+    unfolding oldEffect ticked step5 steps1to4
+    twin-tick =
         record {
           inputs-is = inputs-same;
           buckets-is = t .buckets-is;
@@ -75,8 +75,8 @@ module _ (o n : State) (t : Twin o n) (w : SoundHistory (n .history)) where
           week-is = ap weekAfter (t .week-is);
           loops = loops-alike;
           behind =
-              behind-at _ _ _ _ _ _ x (o .history) (n .history) (ap policy (t .settings-is)) (ap (λ (c : Choice). c .selected) choice-same)
-              (alike-locked (steps1to4 mask lock o .loop .mode) (steps1to4 mask lock n .loop .mode) (loops-alike .modes)) (t .behind);
+              behind-at _ _ _ _ _ _ (e .sample) (o .history) (n .history) (ap policy (t .settings-is)) (ap (λ (c : Choice). c .selected) choice-same)
+              (alike-locked (steps1to4 e o .loop .mode) (steps1to4 e n .loop .mode) (loops-alike .modes)) (t .behind);
         }
 
   -- a measurement
@@ -109,8 +109,7 @@ module _ (o n : State) (t : Twin o n) (w : SoundHistory (n .history)) where
 
   -- a call
   twin-called : (f : Buckets → Buckets) (g : Buckets → Inputs → Inputs)
-      → Twin (afterCall (f (o .buckets)) (g (o .buckets) (o .inputs)) o) (afterCall (f (n .buckets)) (g (n .buckets) (n .inputs)) n)
-  unfolding afterCall
+      → Twin (withBuckets (f (o .buckets)) (withInputs (g (o .buckets) (o .inputs)) o)) (withBuckets (f (n .buckets)) (withInputs (g (n .buckets) (n .inputs)) n))
   twin-called f g =
       record {
         inputs-is = rw (t .buckets-is, t .inputs-is) refl;
@@ -123,8 +122,7 @@ module _ (o n : State) (t : Twin o n) (w : SoundHistory (n .history)) where
       }
 
   -- a call of the week's
-  twin-week : (f : Week → Week) → Twin (afterWeek (f (o .week)) o) (afterWeek (f (n .week)) n)
-  unfolding afterWeek
+  twin-week : (f : Week → Week) → Twin (withWeek (f (o .week)) o) (withWeek (f (n .week)) n)
   twin-week f =
       record {
         inputs-is = t .inputs-is;
@@ -136,37 +134,41 @@ module _ (o n : State) (t : Twin o n) (w : SoundHistory (n .history)) where
         behind = t .behind;
       }
 
+  -- a command, or a setting
+  twin-commanded : (h g : History) → Behind h g → Twin (withHistory h o) (withHistory g n)
+  twin-commanded h g b =
+      record {
+        inputs-is = t .inputs-is;
+        buckets-is = t .buckets-is;
+        settings-is = t .settings-is;
+        choice-is = t .choice-is;
+        week-is = t .week-is;
+        loops = t .loops;
+        behind = b;
+      }
+
+  twin-set : (f : Settings → Settings) → Twin (withSettings (f (o .settings)) o) (withSettings (f (n .settings)) n)
+  twin-set f =
+      record {
+        inputs-is = t .inputs-is;
+        buckets-is = t .buckets-is;
+        settings-is = ap f (t .settings-is);
+        choice-is = t .choice-is;
+        week-is = t .week-is;
+        loops = t .loops;
+        behind = t .behind;
+      }
+
   -- a write that both accept, and a command that the new rules alone accept
   module _ (a v : ℕ) (ok : eqb a 0x26 ≡ true → Allowed v (n .history)) where
     twin-written : Twin (oldEffect o (write a v)) (afterWrite a v n)
-    unfolding oldEffect withHistory effect afterWrite
+    unfolding oldEffect effect afterWrite
     twin-written =
-        record {
-          inputs-is = t .inputs-is;
-          buckets-is = t .buckets-is;
-          settings-is = rw (t .settings-is) refl;
-          choice-is = t .choice-is;
-          week-is = t .week-is;
-          loops = t .loops;
-          behind = go (eqb a 0x26) refl;
-        }
-      where
-        go : (b : Bool) → eqb a 0x26 ≡ b → Behind (if b then oldCommanded v (o .history) else o .history) (if b then commanded v (n .history) else n .history)
-        go true e = behind-both v (o .history) (n .history) (t .behind) (ok e)
-        go false e = t .behind
+        by-test (eqb a 0x26) (λ e. rw e (twin-commanded _ _ (behind-both v (o .history) (n .history) (t .behind) (ok e)))) (λ e. rw e (twin-set (written a v)))
 
     twin-alone : eqb a 0x26 ≡ true → (v ≡ 1) ⊎ (v ≡ 2) → Twin o (afterWrite a v n)
     unfolding afterWrite
-    twin-alone e which =
-        record {
-          inputs-is = t .inputs-is;
-          buckets-is = t .buckets-is;
-          settings-is = rw e (t .settings-is);
-          choice-is = t .choice-is;
-          week-is = t .week-is;
-          loops = t .loops;
-          behind = rw e (behind-alone v (o .history) (n .history) (t .behind) (ok e) which);
-        }
+    twin-alone e which = rw e (twin-commanded (o .history) _ (behind-alone v (o .history) (n .history) (t .behind) (ok e) which))
 
 -- ---- an event, and a list
 
@@ -205,7 +207,7 @@ module _ (o n : State) (t : Twin o n) (w : SoundHistory (n .history)) where
 
   twin-next : (e : Event) → Twin (oldNext o e) (next n e)
   unfolding oldNext oldEffect next effect refusal afterSet afterAssign bucketFrom
-  twin-next (tick mask lock x) = both (accepted n (tick mask lock x)) (accepted n (tick mask lock x)) refl (twin-tick o n t w mask lock x)
+  twin-next (tick e) = both (accepted n (tick e)) (accepted n (tick e)) refl (twin-tick o n t w e)
   twin-next (measurement i x) = both (accepted n (measurement i x)) (accepted n (measurement i x)) refl (twin-measured o n t w i x)
   twin-next hit = both (accepted o hit) (accepted n hit) (ap (λ (c : Choice). eqb (if isTracked (c .selected) then 0 else 5) 0) (t .choice-is)) (twin-hit o n t w)
   twin-next (write a v) = twin-write a v

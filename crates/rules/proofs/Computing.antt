@@ -5,6 +5,7 @@ use Rattle.rules.specs.Monitors
 use Rattle.rules.specs.Pll
 use Rattle.rules.specs.Settings
 use Rattle.rules.specs.Week
+use Rattle.rules.specs.Inputs
 use Rattle.rules.specs.Selection
 use Rattle.rules.specs.Buckets
 use Rattle.rules.specs.History
@@ -30,7 +31,8 @@ unfolding
     Settings.priority Settings.revertive Settings.usable Settings.ahead Settings.delayTicks
     Week.freshWeek Week.inWindow Week.busy Week.advanced Week.longest Week.isWindow Week.ascending Week.startsWeek Week.lastEnd Week.endsWeek Week.windowsFit
     Week.windowsFrom
-    Selection.altered Selection.eachFrom Selection.available Selection.candidate Selection.bestUpTo Selection.best Selection.settled
+    Inputs.altered Inputs.eachFrom
+    Selection.available Selection.candidate Selection.bestUpTo Selection.best Selection.settled
     Selection.waitAfter Selection.switches Selection.reverted Selection.reselected Selection.manual Selection.chosen Selection.unselectedMode Selection.unselectedLoop
     Selection.modeAfter Selection.steered
     Buckets.bucketFrom Buckets.inBounds Buckets.startBucket Buckets.freshBuckets Buckets.withSet Buckets.withAssigned Buckets.putAtSize
@@ -43,7 +45,7 @@ unfolding
     Reading.maskUpTo Reading.countUpTo Reading.qualifiedMask Reading.availableMask Reading.availableCount Reading.hours Reading.stateByte
     Reading.statusByte Reading.twos Reading.valueByte Reading.shown Reading.content Reading.read
     Refusals.limitsApart Refusals.limitsRefused Refusals.commandRefused Refusals.writeRefusal Refusals.setRefusal Refusals.assignRefusal Refusals.weekRefusal Refusals.windowsRefusal Refusals.refusal
-    Run.afterMeasurement Run.afterHit Run.afterWrite Run.afterCall Run.afterSet Run.afterAssign Run.afterWeek Run.effect Run.next Run.outcome Run.run
+    Run.afterMeasurement Run.afterHit Run.afterWrite Run.afterSet Run.afterAssign Run.effect Run.next Run.outcome Run.run
     Loading.most Loading.fits Loading.loads Loading.loadRefusal Loading.freshFrom Loading.loading
     Sheet.signed Sheet.tickOf Sheet.measurementOf Sheet.hitOf Sheet.writeOf Sheet.finerOf Sheet.fields Sheet.decode Sheet.settingsCount Sheet.eventsAt
     Sheet.eventsCount Sheet.sheetEnd Sheet.settingsOf Sheet.before Sheet.eventsOf Sheet.sheetEvents Sheet.isEvent Sheet.allEvents Sheet.recordCount
@@ -53,6 +55,6 @@ unfolding
     Pages.leftIn Pages.rightIn Pages.stateName Pages.recordColumns Pages.pageCount Pages.pageLine Pages.joined Pages.page Pages.pagesOf
     Pages.printCheck Pages.print
     Service.acceptedTicks
-    OldHistory.oldBlocks OldHistory.oldSampled OldHistory.oldNoted OldHistory.oldRecorded OldHistory.oldCommanded OldHistory.withHistory OldHistory.oldEffect
+    OldHistory.oldBlocks OldHistory.oldSampled OldHistory.oldNoted OldHistory.oldRecorded OldHistory.oldCommanded OldHistory.oldEffect
     OldHistory.oldNext OldHistory.oldRun
 computing = 0

@@ -4,6 +4,7 @@ use mathlib.Core.Path.{_≡_, refl}
 use mathlib.Core.Bool.{true, _&&_}
 use mathlib.Core.List.{List, [], _∷_}
 use native.Mathlib.Omega.{arith}
+use lib.Dec.{eqb}
 use borrow.Author.Tests.{eqb-false, ne-eqb}
 use Rattle.rules.specs.Words.{if_then_else_, isTracked}
 use Rattle.rules.specs.Events.{Event, tick, measurement, hit, write, setBucket, assignBucket, setWeek, setWindows}
@@ -14,7 +15,7 @@ use Rattle.rules.specs.Tick.{hourTicks, holdingLimit, holdingAfter, step
 use Rattle.rules.specs.Registers.{freshWith}
 use Rattle.rules.specs.Reading.{hours}
 use Rattle.rules.specs.Refusals.{refusal, accepted}
-use Rattle.rules.specs.Run.{afterMeasurement, afterHit, afterWrite, afterCall, afterSet, afterAssign, afterWeek, effect, next, run}
+use Rattle.rules.specs.Run.{afterMeasurement, afterHit, afterWrite, afterSet, afterAssign, effect, next, run}
 use Rattle.rules.specs.Loading.{Fresh}
 use Rattle.rules.specs.Laws.{LeastDelay, Delays, Lawful, heldAfter, heldTicks, Hours}
 use Rattle.rules.proofs.Tests.{if-case, by-test, zero-if}
@@ -62,13 +63,13 @@ held-hit n s t w = rw (ne-eqb (modeNumber (mode s)) 1 (λ z. omega (arith, w .lo
 
 -- each event keeps the count at the one with no bound, or at where it stops
 held-next : (n : ℕ) (s : State) (e : Event) → Lawful s → s .holding ≡ min holdingLimit n → next s e .holding ≡ min holdingLimit (heldAfter n s e)
-unfolding heldAfter next effect refusal ticked step5 steps1to4 afterMeasurement afterWrite afterCall afterSet afterAssign afterWeek
-held-next n s (tick mask lock x) w h =
-    by-test (accepted s (tick mask lock x)) (λ a. rw a (held-tick (mode s) (ticked mask lock x s .loop .mode) (s .holding) n h)) (λ a. rw a (held-same n s w h))
+unfolding heldAfter next effect refusal ticked step5 steps1to4 afterMeasurement afterWrite afterSet afterAssign
+held-next n s (tick t) w h =
+    by-test (accepted s (tick t)) (λ a. rw a (held-tick (mode s) (ticked t s .loop .mode) (s .holding) n h)) (λ a. rw a (held-same n s w h))
 held-next n s (measurement i x) w h = if-case (Held n s) (accepted s (measurement i x)) (λ a. held-same n s w h) (λ a. held-same n s w h)
 held-next n s hit w h =
     if-case (Held n s) (accepted s hit) (λ a. held-hit n s (zero-if (isTracked (selected s)) 4 a) w) (λ a. held-same n s w h)
-held-next n s (write a v) w h = if-case (Held n s) (accepted s (write a v)) (λ t. held-same n s w h) (λ t. held-same n s w h)
+held-next n s (write a v) w h = if-case (Held n s) (accepted s (write a v)) (λ t. if-case (Held n s) (eqb a 0x26) (λ c. held-same n s w h) (λ c. held-same n s w h)) (λ t. held-same n s w h)
 held-next n s (setBucket m size setLevel clearLevel d) w h =
     if-case (Held n s) (accepted s (setBucket m size setLevel clearLevel d)) (λ t. held-same n s w h) (λ t. held-same n s w h)
 held-next n s (assignBucket i m) w h = if-case (Held n s) (accepted s (assignBucket i m)) (λ t. held-same n s w h) (λ t. held-same n s w h)

@@ -4,12 +4,12 @@ use mathlib.Core.Path.{_≡_}
 use mathlib.Core.Bool.{Bool, true, _&&_}
 use lib.Dec.{ltb, eqb}
 use lib.IntN.{ℤ}
-use Rattle.rules.specs.Events.{tick, measurement, oldKind, hit, write}
+use Rattle.rules.specs.Events.{tickWith, measurement, oldKind, hit, write}
 use Rattle.rules.specs.Sheet.{signedByte, Decoded, event, bad, isZero, isOffset, tickOf, measurementOf, hitOf, writeOf, finerOf, fields}
 use Rattle.rules.proofs.Tests.{if-case, and-right}
 
 module _ (P : Decoded → Type 0) (kind a b : ℕ) (w : ℤ) (none : P bad) where
-  pub fields-case : ((lock : Bool) → P (event (tick a lock w)))
+  pub fields-case : ((lock : Bool) → P (event (tickWith a lock w)))
       → (eqb kind 1 ≡ true → P (event (oldKind a (signedByte b))))
       → P (event hit)
       → P (event (write a b))

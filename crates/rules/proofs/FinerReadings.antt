@@ -13,10 +13,10 @@ use Rattle.rules.specs.Events.{Event, tick, measurement, hit, write, set
 use Rattle.rules.specs.Monitors.{Input, frequencyAfter, measured}
 use Rattle.rules.specs.Settings.{reject, qualification}
 use Rattle.rules.specs.Inputs.{altered}
-use Rattle.rules.specs.State.{State}
+use Rattle.rules.specs.State.{State, withInputs}
 use Rattle.rules.specs.Registers.{fresh}
 use Rattle.rules.specs.Refusals.{refusal, accepted}
-use Rattle.rules.specs.Run.{withInputs, afterMeasurement, effect, next, outcome, run}
+use Rattle.rules.specs.Run.{afterMeasurement, effect, next, outcome, run}
 use Rattle.rules.specs.Sheet.{word32, signed, signedByte, signedWord, Decoded, event, bad, isZero, isOffset, measurementOf, fields, decode, settingsCount, eventsAt, eventsCount, settingsOf, before, eventsOf, sheetEvents, isEvent, allEvents, checkBy, check, recordOf, records, front}
 use Rattle.rules.specs.OldReadings.{coarseEffect, coarseOutcome, coarseRun, coarseRecords, coarseFields, coarseDecode, coarseEventsOf, coarseAllEvents, coarseSheetEvents, coarseCheck, coarseFront}
 use Rattle.rules.specs.FinerReadings.{finer, EventAsBefore, HistoryAsBefore, ProvisoAsBefore, finerDecoded, FieldsAsBefore, without4, SheetAsBefore, SixteenBits, FinerReadings}
@@ -59,7 +59,7 @@ proviso-as-before r i s x = ((λ fair e. omega (arith, natAbs-times x, fair e)),
 
 event-as-before : EventAsBefore
 unfolding outcome next refusal effect afterMeasurement coarseOutcome coarseEffect
-event-as-before s (tick mask lock x) = refl
+event-as-before s (tick t) = refl
 event-as-before s (measurement i x) =
     λ t.
     record {
@@ -165,7 +165,7 @@ sheet-as-before s room w =
 
 -- decoded fields whose offset, if they have one, is a number of 16 bits
 abbrev Narrow : Decoded → Type 0
-Narrow (event (tick mask lock x)) = Unit {0}
+Narrow (event (tick t)) = Unit {0}
 Narrow (event (measurement i offset)) = isOffset offset ≡ true
 Narrow (event hit) = Unit {0}
 Narrow (event (write a v)) = Unit {0}

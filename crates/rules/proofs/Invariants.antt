@@ -2,7 +2,7 @@
 use Prim.Native.Nat.{ℕ, _+_, _-_, _≤_, _<_}
 use mathlib.Core.Path.{_≡_, refl, sym, subst, _∙_}
 use mathlib.Core.Logic.{inl}
-use mathlib.Core.Bool.{Bool, true, false, not, _&&_, _||_, false≢true}
+use mathlib.Core.Bool.{true, false, not, _&&_, _||_, false≢true}
 use mathlib.Core.List.{List, [], _∷_}
 use native.Mathlib.Omega.{arith}
 use lib.Dec.{leb, ltb, eqb}
@@ -10,7 +10,7 @@ use lib.IntN.{ℤ, natAbs}
 use lib.ListN.{getD-replicate}
 use borrow.Author.Tests.{eqb-true, eqb-false, leb-true, ltb-true, ltb-false, le-ltb, eq-eqb, ne-eqb, not-false}
 use Rattle.rules.specs.Words.{isInput, isTracked}
-use Rattle.rules.specs.Events.{Event, tick, measurement, hit, write, setBucket, assignBucket, setWeek, setWindows, sampleLimit}
+use Rattle.rules.specs.Events.{Event, Tick, tick, measurement, hit, write, setBucket, assignBucket, setWeek, setWindows, sampleLimit}
 use Rattle.rules.specs.Monitors.{unsoaked, freshInput}
 use Rattle.rules.specs.Pll.{Mode, freeRun, holdover, modeNumber, is}
 use Rattle.rules.specs.Settings.{Settings, reject, qualification}
@@ -18,14 +18,14 @@ use Rattle.rules.specs.Week.{weekTicks, Week, freshWeek, advanced, ascen
 use Rattle.rules.specs.Inputs.{Inputs}
 use Rattle.rules.specs.Selection.{settled, unselectedMode, unselectedLoop}
 use Rattle.rules.specs.Buckets.{bucketFrom, Buckets, startBucket, bucketOf}
-use Rattle.rules.specs.History.{History, freshHistory, held}
-use Rattle.rules.specs.State.{State, selected, Ready}
+use Rattle.rules.specs.History.{freshHistory, held, commanded}
+use Rattle.rules.specs.State.{State, selected, Ready, withInputs, withBuckets, withSettings, withHistory, withWeek}
 use Rattle.rules.specs.Tick.{holdingLimit, holdingAfter, weekAfter, steps1to4, step5, ticked}
 use Rattle.rules.specs.Registers.{slot, inMap, registers, register, readOnly, largest, stored, written, freshWith}
 use Rattle.rules.specs.Refusals.{limitsApart, limitsRefused, commandRefused, writeRefusal, weekRefusal, windowsRefusal, refusal, accepted}
-use Rattle.rules.specs.Run.{afterMeasurement, afterHit, afterWrite, afterCall, afterSet, afterAssign, afterWeek, effect, next, run}
+use Rattle.rules.specs.Run.{afterMeasurement, afterHit, afterWrite, afterSet, afterAssign, effect, next, run}
 use Rattle.rules.specs.Loading.{freshFrom, Fresh}
-use Rattle.rules.specs.Laws.{SoundBuckets, SoundInputs, SoundSettings, SoundHistory, SoundWeek, Lawful, Invariants, Saturation}
+use Rattle.rules.specs.Laws.{SoundBuckets, SoundInputs, SoundSettings, SoundWeek, Lawful, Invariants, Saturation}
 use Rattle.rules.proofs.Tests.{if-case, by-test, clash, and-false, or-false, low, high, unrefused, zero-if}
 use Rattle.rules.proofs.Loading.{stored-le, sound-loaded}
 use Rattle.rules.proofs.OneInput.{works, sound-measured, sound-unsoaked, sound-fresh}
@@ -116,16 +116,16 @@ sound-advanced : (w : Week) → SoundWeek w → SoundWeek (weekAfter w)
 unfolding weekAfter
 sound-advanced w sound = record { place-lt = place-bound (w .place); fit = sound .fit }
 
-pub lawful-tick : (mask : ℕ) (lock : Bool) (x : ℤ) (s : State) → natAbs x ≤ sampleLimit → Lawful s → Lawful (ticked mask lock x s)
+pub lawful-tick : (t : Tick) (s : State) → natAbs (t .sample) ≤ sampleLimit → Lawful s → Lawful (ticked t s)
 unfolding ticked step5 steps1to4
-lawful-tick mask lock x s small w =
+lawful-tick t s small w =
     record {
       buckets = w .buckets;
-      inputs = sound-inputs mask lock s (w .buckets) (w .inputs);
+      inputs = sound-inputs (t .mask) (t .lock) s (w .buckets) (w .inputs);
       settings = w .settings;
-      loop = sound-loop mask lock s w;
-      history = sound-recorded _ _ _ x (s .history) small (w .history);
-      last = λ e. last-recorded _ _ _ x (s .history) e;
+      loop = sound-loop (t .mask) (t .lock) s w;
+      history = sound-recorded _ _ _ (t .sample) (s .history) small (w .history);
+      last = λ e. last-recorded _ _ _ (t .sample) (s .history) e;
       holding-le = holding-bound _ _ (s .holding);
       holding-none = holding-zero _ _ (s .holding);
       week = sound-advanced (s .week) (w .week);
@@ -163,18 +163,7 @@ lawful-hit s r w =
 
 lawful-write : (a v : ℕ) (s : State) → WriteAllowed s a v → Lawful s → Lawful (afterWrite a v s)
 unfolding afterWrite commandRefused largest register registers slot
-lawful-write a v s ok w =
-    record {
-      buckets = w .buckets;
-      inputs = w .inputs;
-      settings = if-case SoundSettings (eqb a 0x26) (λ e. w .settings) (λ e. sound-written s a v ok (w .settings));
-      loop = w .loop;
-      history = if-case SoundHistory (eqb a 0x26) (λ e. sound-commanded v (s .history) (small e) (λ z. allowed e z) (w .history)) (λ e. w .history);
-      last = λ t. if-case (λ (h : History). h .last ≡ selected s) (eqb a 0x26) (λ e. last-commanded v (s .history) ∙ w .last t) (λ e. w .last t);
-      holding-le = w .holding-le;
-      holding-none = w .holding-none;
-      week = w .week;
-    }
+lawful-write a v s ok w = if-case Lawful (eqb a 0x26) command setting
   where
     small : eqb a 0x26 ≡ true → v ≤ 3
     small e = subst (λ n. v ≤ largest n) (eqb-true a 0x26 e) (ok .small)
@@ -182,9 +171,36 @@ lawful-write a v s ok w =
     allowed : eqb a 0x26 ≡ true → v ≡ 1 → Ready s ≡ true
     allowed e z = by-test (Ready s) (λ r. r) (λ r. clash {b = eqb a 0x26 && commandRefused (Ready s) (held (s .history .backup)) v} (rw (e, z, r) refl) (ok .command))
 
+    command : eqb a 0x26 ≡ true → Lawful (withHistory (commanded v (s .history)) s)
+    command e =
+        record {
+          buckets = w .buckets;
+          inputs = w .inputs;
+          settings = w .settings;
+          loop = w .loop;
+          history = sound-commanded v (s .history) (small e) (λ z. allowed e z) (w .history);
+          last = λ t. last-commanded v (s .history) ∙ w .last t;
+          holding-le = w .holding-le;
+          holding-none = w .holding-none;
+          week = w .week;
+        }
+
+    setting : eqb a 0x26 ≡ false → Lawful (withSettings (written a v (s .settings)) s)
+    setting e =
+        record {
+          buckets = w .buckets;
+          inputs = w .inputs;
+          settings = sound-written s a v ok (w .settings);
+          loop = w .loop;
+          history = w .history;
+          last = w .last;
+          holding-le = w .holding-le;
+          holding-none = w .holding-none;
+          week = w .week;
+        }
+
 -- a call whose sets and inputs are sound
-lawful-call : (bs : Buckets) (inputs : Inputs) (s : State) → SoundBuckets bs → SoundInputs bs inputs → Lawful s → Lawful (afterCall bs inputs s)
-unfolding afterCall
+lawful-call : (bs : Buckets) (inputs : Inputs) (s : State) → SoundBuckets bs → SoundInputs bs inputs → Lawful s → Lawful (withBuckets bs (withInputs inputs s))
 lawful-call bs inputs s sets sound w =
     record {
       buckets = sets;
@@ -212,8 +228,7 @@ lawful-assign i n s ok w =
     (sound-after-assign (s .buckets) (s .inputs) (w .inputs) i n (ok .0) (ok .1) (w .buckets)) w
 
 -- a week that is sound
-lawful-week : (week : Week) (s : State) → SoundWeek week → Lawful s → Lawful (afterWeek week s)
-unfolding afterWeek
+lawful-week : (week : Week) (s : State) → SoundWeek week → Lawful s → Lawful (withWeek week s)
 lawful-week week s sound w =
     record {
       buckets = w .buckets;
@@ -229,9 +244,9 @@ lawful-week week s sound w =
 
 pub lawful-next : (s : State) (e : Event) → Lawful s → Lawful (next s e)
 unfolding next effect refusal weekRefusal windowsRefusal
-lawful-next s (tick mask lock x) w =
-    if-case Lawful (accepted s (tick mask lock x))
-    (λ t. lawful-tick mask lock x s (leb-true (natAbs x) sampleLimit (zero-if (leb (natAbs x) sampleLimit) 6 t)) w) (λ t. w)
+lawful-next s (tick t) w =
+    if-case Lawful (accepted s (tick t))
+    (λ e. lawful-tick t s (leb-true (natAbs (t .sample)) sampleLimit (zero-if (leb (natAbs (t .sample)) sampleLimit) 6 e)) w) (λ e. w)
 lawful-next s (measurement i x) w = if-case Lawful (accepted s (measurement i x)) (λ t. lawful-measurement i x s (zero-if (isInput i) 5 t) w) (λ t. w)
 lawful-next s hit w = if-case Lawful (accepted s hit) (λ t. lawful-hit s (zero-if (isTracked (selected s)) 4 t) w) (λ t. w)
 lawful-next s (write a v) w = if-case Lawful (accepted s (write a v)) (λ t. lawful-write a v s (write-allowed s a v t) w) (λ t. w)
@@ -240,9 +255,9 @@ lawful-next s (setBucket n size setLevel clearLevel d) w =
     (λ t. lawful-set n size setLevel clearLevel d s (set-allowed n size setLevel clearLevel d (eqb-true _ 0 t)) w) (λ t. w)
 lawful-next s (assignBucket i n) w =
     if-case Lawful (accepted s (assignBucket i n)) (λ t. lawful-assign i n s (assign-allowed i n (eqb-true _ 0 t)) w) (λ t. w)
-lawful-next s (setWeek slot) w =
-    if-case Lawful (accepted s (setWeek slot))
-    (λ t. lawful-week _ s (record { place-lt = ltb-true slot weekTicks (zero-if (ltb slot weekTicks) 15 t); fit = w .week .fit }) w) (λ t. w)
+lawful-next s (setWeek place) w =
+    if-case Lawful (accepted s (setWeek place))
+    (λ t. lawful-week _ s (record { place-lt = ltb-true place weekTicks (zero-if (ltb place weekTicks) 15 t); fit = w .week .fit }) w) (λ t. w)
 lawful-next s (setWindows windows) w =
     if-case Lawful (accepted s (setWindows windows))
     (λ t. lawful-week _ s (record { place-lt = w .week .place-lt; fit = zero-if (windowsFit windows) 15 t }) w) (λ t. w)

@@ -1,6 +1,6 @@
 -- The laws of the rules, all in one place: each statement with its proof.
 use Rattle.rules.specs.Laws.{Laws}
-use Rattle.rules.proofs.Tables.{map-places}
+use Rattle.rules.proofs.Tables.{map-slots}
 use Rattle.rules.proofs.Loading.{standard, reads-back}
 use Rattle.rules.proofs.Counts.{delays, hours-held}
 use Rattle.rules.proofs.Value.{value-floor, value-range}
@@ -31,7 +31,7 @@ laws =
       twosComplement = twos-complement;
       notReady = not-ready;
       refused = refused;
-      map = map-places;
+      map = map-slots;
       bytes = bytes;
       standard = standard;
       readsBack = reads-back;

@@ -17,7 +17,7 @@ use Rattle.rules.specs.Refusals.{limitsApart}
 use Rattle.rules.specs.Loading.{most, fits, loads, freshFrom, Fresh}
 use Rattle.rules.specs.Laws.{SoundSettings, Standard, ReadsBack}
 use Rattle.rules.proofs.Tests.{if-case, if-le, by-test, and-left, and-right}
-use Rattle.rules.proofs.Tables.{at-index, at-below, map-places}
+use Rattle.rules.proofs.Tables.{at-index, at-below, map-slots}
 
 pub stored-le : (a v : ℕ) → stored a v ≤ v
 unfolding stored
@@ -44,7 +44,7 @@ module _ (table : List ℕ) (ok : loads table ≡ true) where
   within : (a : ℕ) → inMap a ≡ true → settingsFrom table a ≤ most (register a)
   unfolding fits inMap register registers
   within a m =
-      subst (λ b. settingsFrom table b ≤ most (register a)) (map-places a m)
+      subst (λ b. settingsFrom table b ≤ most (register a)) (map-slots a m)
       (leb-true (settingsFrom table (register a .address)) (most (register a))
       (at-index (fits table) registers (reads a) (and-right (eqb (length table) 27) (every (fits table) registers) first) (slot a)
       (λ past. absurd (omega (arith, ltb-true (slot a) 27 m)))))

@@ -10,7 +10,7 @@ use lib.IntN.{ℤ, natAbs, _+ℤ_}
 use lib.ListN.{length}
 use borrow.Author.Tests.{eqb-true, eqb-false, leb-true, leb-false, ltb-true, ltb-false, eq-eqb, ne-eqb}
 use Rattle.rules.specs.Words.{if_then_else_, bitOf, isInput, isTracked, isCounted}
-use Rattle.rules.specs.Events.{Event, tick, measurement, hit, write, setBucket, assignBucket, setWeek, setWindows, halfPpm, isTick}
+use Rattle.rules.specs.Events.{Event, Tick, tick, measurement, hit, write, setBucket, assignBucket, setWeek, setWindows, halfPpm, isTick}
 use Rattle.rules.specs.Monitors.{Bucket, Input, monitored, measured, unsoaked, lockAlarmed, qualified}
 use Rattle.rules.specs.Pll.{locked, is, modeNumber, Loop, lockTicks, looped, alarmDue}
 use Rattle.rules.specs.Settings.{Settings, policy, automatic, reject, qualification, priority, usable, revertive, ahead, reversion, opMode}
@@ -267,10 +267,10 @@ module _ (q n m left left′ r k : ℕ) (blocked : Bool) (c d : Choice) (p : Loo
       more : min (suc k) (q + n) < d .wait + q
       more = omega (arith, z .0, w .counts, wait-more blocked n r c short (z .1))
 
-going-tick : (b : Bucket) (m n r k mask : ℕ) (lock : Bool) (x : ℤ) (s : State) → isInput r ≡ true → Going b m n r k s → Lawful (ticked mask lock x s)
-    → bitOf mask r ≡ false → (selected s ≡ r → lock ≡ true) → Going b m n r (suc k) (ticked mask lock x s)
+going-tick : (b : Bucket) (m n r k : ℕ) (t : Tick) (s : State) → isInput r ≡ true → Going b m n r k s → Lawful (ticked t s)
+    → bitOf (t .mask) r ≡ false → (selected s ≡ r → t .lock ≡ true) → Going b m n r (suc k) (ticked t s)
 unfolding ticked step5 steps1to4 weekAfter loopAfter
-going-tick b m n r k mask lock x s ref g after reg locks =
+going-tick b m n r k t s ref g after reg locks =
     record {
       auto = g .auto;
       prefer = g .prefer;
@@ -298,19 +298,19 @@ going-tick b m n r k mask lock x s ref g after reg locks =
     fewer = blocked-less (s .week .windows) (g .lawful .week .fit) (s .week .place)
 
     I : Inputs
-    I = inputsAfter mask lock s
+    I = inputsAfter (t .mask) (t .lock) s
 
     D : Choice
-    D = choiceAfter mask lock s
+    D = choiceAfter (t .mask) (t .lock) s
 
     L : Loop
-    L = ticked mask lock x s .loop
+    L = ticked t s .loop
 
     H : History
-    H = ticked mask lock x s .history
+    H = ticked t s .history
 
     calm-after : Calm (bucketOf (s .buckets) r) (suc k) (input I r)
-    calm-after = calm-inputs k mask r lock s ref (g .lawful .buckets) (g .lawful .inputs) (g .calm) reg locks
+    calm-after = calm-inputs k (t .mask) r (t .lock) s ref (g .lawful .buckets) (g .lawful .inputs) (g .calm) reg locks
 
     choice-made : Q ≤ suc k → (D .selected ≡ r) ⊎ Waits (Blocked s) n r (s .choice) D
     choice-made h =
@@ -321,15 +321,15 @@ going-tick b m n r k mask lock x s ref g after reg locks =
     serve : Q ≤ k → selected s ≡ r → Serving (k - (Q + n + M)) (s .loop) (s .history) → (D .selected ≡ r) ⊎ Waits (Blocked s) n r (s .choice) D
         → Phase Q n M left′ r (suc k) D L H
     serve lo e sv (inr w) = absurd (w .other e)
-    serve lo e sv (inl t) =
-        serves (omega arith) t
+    serve lo e sv (inl stays) =
+        serves (omega arith) stays
         (serving-less (suc k - (Q + n + M)) (suc (k - (Q + n + M))) L H (omega arith)
-        (subst (λ z. Serving (suc (k - (Q + n + M))) L (recorded (policy (s .settings)) z (is locked (L .mode)) x (s .history))) (sym t)
-        (serving-tick (s .settings) (Ready s) r (s .loop) ref (k - (Q + n + M)) (policy (s .settings)) x (s .history) (g .auto)
+        (subst (λ z. Serving (suc (k - (Q + n + M))) L (recorded (policy (s .settings)) z (is locked (L .mode)) (t .sample) (s .history))) (sym stays)
+        (serving-tick (s .settings) (Ready s) r (s .loop) ref (k - (Q + n + M)) (policy (s .settings)) (t .sample) (s .history) (g .auto)
         (g .lawful .last (ap isTracked e ∙ ref) ∙ e) (g .lawful .history .open-lt) sv L here)))
       where
         here : L ≡ steered (automatic (s .settings)) (opMode (s .settings)) (Ready s) r r (looped true (s .loop))
-        here = loop-same (s .settings) (Ready s) r (s .loop) ref (selected s) (D .selected) lock e t (locks e)
+        here = loop-same (s .settings) (Ready s) r (s .loop) ref (selected s) (D .selected) (t .lock) e stays (locks e)
 
     go : phaseOf n r k s → Phase Q n M left′ r (suc k) D L H
     go (early h) =
@@ -396,12 +396,12 @@ module _ (b : Bucket) (m n r : ℕ) (ref : isInput r ≡ true) where
   going-next : (k : ℕ) (s : State) (e : Event) → Fair r s e → Going b m n r k s → Lawful (next s e)
       → Going b m n r ((if isTick e && accepted s e then 1 else 0) + k) (next s e)
   unfolding next effect refusal
-  going-next k s (tick mask lock x) fair g = go (accepted s (tick mask lock x)) refl
+  going-next k s (tick t) fair g = go (accepted s (tick t)) refl
     where
-      go : (y : Bool) → accepted s (tick mask lock x) ≡ y → Lawful (if y then ticked mask lock x s else s)
-          → Going b m n r ((if y then 1 else 0) + k) (if y then ticked mask lock x s else s)
+      go : (y : Bool) → accepted s (tick t) ≡ y → Lawful (if y then ticked t s else s)
+          → Going b m n r ((if y then 1 else 0) + k) (if y then ticked t s else s)
       go true e after =
-          subst (λ (j : ℕ). Going b m n r j (ticked mask lock x s)) (omega arith) (going-tick b m n r k mask lock x s ref g after (fair e .0) (fair e .1))
+          subst (λ (j : ℕ). Going b m n r j (ticked t s)) (omega arith) (going-tick b m n r k t s ref g after (fair e .0) (fair e .1))
       go false e after = still k s g
   going-next k s (measurement i x) fair g =
       other-event k (accepted s (measurement i x)) s (afterMeasurement i x s)

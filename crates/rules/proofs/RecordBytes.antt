@@ -10,7 +10,7 @@ use lib.ListN.{length, drop}
 use borrow.Author.Tests.{eq-eqb}
 use Rattle.rules.specs.Words.{isInput, isTracked}
 use Rattle.rules.specs.Events.{Event, tick, measurement, hit, write, setBucket, assignBucket, setWeek, setWindows, isCall, sampleLimit}
-use Rattle.rules.specs.State.{State, selected, Ready}
+use Rattle.rules.specs.State.{State, selected, mode, Ready}
 use Rattle.rules.specs.History.{held}
 use Rattle.rules.specs.Registers.{inMap, readOnly, largest, fresh}
 use Rattle.rules.specs.Refusals.{limitsRefused, commandRefused, writeRefusal, refusal}
@@ -25,7 +25,7 @@ use Rattle.rules.proofs.Callless.{no-calls}
 -- the numbers of events that are no calls are 1 to 8
 refusal-le : (s : State) (e : Event) → isCall e ≡ false → refusal s e ≤ 8
 unfolding refusal writeRefusal
-refusal-le s (tick mask lock x) p = if-le (leb (natAbs x) sampleLimit) (omega arith) (omega arith)
+refusal-le s (tick t) p = if-le (leb (natAbs (t .sample)) sampleLimit) (omega arith) (omega arith)
 refusal-le s (measurement i offset) p = if-le (isInput i) (omega arith) (omega arith)
 refusal-le s hit p = if-le (isTracked (selected s)) (omega arith) (omega arith)
 refusal-le s (write a v) p =
@@ -42,8 +42,9 @@ refusal-le s (setWindows windows) p = absurd (true≢false p)
 first-bytes : (s : State) (e : Event) (rest : List ℕ) → isCall e ≡ false → RecordBytes (recordOf (outcome s e) ++ rest)
 unfolding outcome
 first-bytes s e rest p =
-    rw (record-is (refusal s e) (next s e))
-    (record { refusal-le = refusal-le s e p; state-le = state-digit (next s e); status-lt = status-bits (next s e) })
+    let now = next s e in
+    rw (record-is (refusal s e) now)
+    (record { refusal-le = refusal-le s e p; state-le = state-digit (mode now) (selected now); status-lt = status-bits (mode now) (Ready now) (held (now .history .backup)) })
 
 -- the records after the first
 past-first : (s : State) (e : Event) (es : List Event) (i : ℕ) → drop (4 * suc i) (records s (e ∷ es)) ≡ drop (4 * i) (records (outcome s e .state) es)

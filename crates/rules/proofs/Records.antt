@@ -9,10 +9,10 @@ use lib.ListN.{length, getD}
 use lib.Seq.{getD-append-add}
 use Rattle.rules.specs.Words.{if_then_else_, bit}
 use Rattle.rules.specs.Events.{Event}
-use Rattle.rules.specs.Pll.{holdover, freeRun, locked, is}
+use Rattle.rules.specs.Pll.{Mode, holdover, freeRun, locked, is}
 use Rattle.rules.specs.Settings.{delay, reversion}
 use Rattle.rules.specs.Buckets.{startBucket, bucketOf}
-use Rattle.rules.specs.State.{State, selected, mode, Ready}
+use Rattle.rules.specs.State.{selected, mode, Ready}
 use Rattle.rules.specs.History.{held}
 use Rattle.rules.specs.Registers.{fresh}
 use Rattle.rules.specs.Reading.{stateByte, statusByte}
@@ -44,13 +44,13 @@ ready-bit false true false = refl
 ready-bit false false true = refl
 ready-bit false false false = refl
 
-shows-ready : (s : State) → Ready s ≡ true → bit (statusByte s) 2 ≡ true
+shows-ready : (m : Mode) (isReady isHeld : Bool) → isReady ≡ true → bit (statusByte m isReady isHeld) 2 ≡ true
 unfolding statusByte
-shows-ready s e = rw e (ready-bit (is holdover (mode s) || is freeRun (mode s)) (is locked (mode s)) (held (s .history .backup)))
+shows-ready m isReady isHeld e = rw e (ready-bit (is holdover m || is freeRun m) (is locked m) isHeld)
 
-shows-selected : (s : State) (r : ℕ) → r ≤ 8 → selected s ≡ r → stateByte s % 16 ≡ r
+shows-selected : (m : Mode) (selected r : ℕ) → r ≤ 8 → selected ≡ r → stateByte m selected % 16 ≡ r
 unfolding stateByte
-shows-selected s r h e = omega (arith, h, e)
+shows-selected m selected r h e = omega (arith, h, e)
 
 -- the record of the event e, which comes after xs
 bytes-are : (sheet : List ℕ) (room : ℕ) (xs : List Event) (e : Event) (rest : List Event) (k : ℕ)
@@ -85,6 +85,6 @@ records-promise sheet room before after later e rest r zero events p =
     let state = bytes-are sheet room xs e rest 1 zero events ∙ ap (λ (l : List ℕ). getD (l ++ records now rest) 1 0) bytes in
     let status = bytes-are sheet room xs e rest 3 zero events ∙ ap (λ (l : List ℕ). getD (l ++ records now rest) 3 0) bytes in
     record {
-      selected-is = λ ticks. ap (λ (n : ℕ). n % 16) state ∙ shows-selected now r (p .high) (ap selected same ∙ served .selected-is ticks);
-      ready-is = λ ticks. ap (λ (n : ℕ). bit n 2) status ∙ shows-ready now (ap Ready same ∙ served .ready-is ticks);
+      selected-is = λ ticks. ap (λ (n : ℕ). n % 16) state ∙ shows-selected (mode now) (selected now) r (p .high) (ap selected same ∙ served .selected-is ticks);
+      ready-is = λ ticks. ap (λ (n : ℕ). bit n 2) status ∙ shows-ready (mode now) (Ready now) (held (now .history .backup)) (ap Ready same ∙ served .ready-is ticks);
     }

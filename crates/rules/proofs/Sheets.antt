@@ -9,7 +9,8 @@ use lib.ListN.{length, take, drop, length-append, length-drop}
 use lib.Seq.{take-at}
 use borrow.Author.Tests.{ltb-false, eq-eqb, ne-eqb, not-false}
 use Rattle.rules.specs.Events.{Event}
-use Rattle.rules.specs.State.{State}
+use Rattle.rules.specs.History.{held}
+use Rattle.rules.specs.State.{State, selected, mode, Ready}
 use Rattle.rules.specs.Registers.{fresh, registers, slot, inMap, register, readOnly}
 use Rattle.rules.specs.Reading.{qualifiedMask, stateByte, statusByte, shown, content, read}
 use Rattle.rules.specs.Run.{outcome, run}
@@ -36,7 +37,7 @@ length-events (suc k) l e =
     ∙ ap suc (length-events k (drop 8 l) (and-right (isEvent (decode l)) (allEvents k (drop 8 l)) e))
 
 -- a record's bytes: the refusal, and what the rules read at 0x48, 0x46 and 0x49
-pub record-is : (n : ℕ) (s : State) → recordOf (record { refusal = n; state = s }) ≡ n ∷ stateByte s ∷ qualifiedMask s ∷ statusByte s ∷ []
+pub record-is : (n : ℕ) (s : State) → recordOf (record { refusal = n; state = s }) ≡ n ∷ stateByte (mode s) (selected s) ∷ qualifiedMask (s .inputs) ∷ statusByte (mode s) (Ready s) (held (s .history .backup)) ∷ []
 unfolding recordOf read content shown registers slot inMap register readOnly
 record-is n s = refl
 

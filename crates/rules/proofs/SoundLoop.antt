@@ -1,11 +1,11 @@
 -- The choice and the loop stay sound over a tick.
-use Prim.Native.Nat.{ℕ, _+_, _-_, _≤_, _<_, min}
+use Prim.Native.Nat.{ℕ, _+_, _≤_, _<_, min}
 use mathlib.Core.Path.{_≡_, refl, sym, ap, _∙_}
 use mathlib.Core.Logic.{_⊎_, inl, inr}
 use mathlib.Core.Bool.{Bool, true, false, not, _&&_, _||_, false≢true}
 use native.Mathlib.Omega.{arith}
 use lib.Dec.{eqb}
-use borrow.Author.Tests.{eqb-true, eqb-false, leb-false, eq-eqb, ne-eqb}
+use borrow.Author.Tests.{eqb-true, eqb-false, eq-eqb, ne-eqb}
 use Rattle.rules.specs.Words.{isTracked}
 use Rattle.rules.specs.Monitors.{qualified, lockAlarmed}
 use Rattle.rules.specs.Pll.{Mode, freeRun, locked, modeNumber, is, unlocked, Loop, lockTicks, unlockTicks, looped, alarmDue}

@@ -11,10 +11,11 @@ use borrow.Author.Tests.{eqb-true, leb-true, le-leb}
 use Rattle.rules.specs.Words.{if_then_else_, isCounted}
 use Rattle.rules.specs.Events.{Event, tick, measurement, hit, write, setBucket, assignBucket, setWeek, setWindows}
 use Rattle.rules.specs.History.{History, readyBlocks, ready, withBlocks, openEmptied, startsBuilding, withLast, noted, recorded, backedUp, replaced, withCommand, commanded}
-use Rattle.rules.specs.State.{State, Ready}
+use Rattle.rules.specs.State.{State, Ready, withSettings, withHistory}
 use Rattle.rules.specs.Tick.{steps1to4, step5, ticked}
+use Rattle.rules.specs.Registers.{written}
 use Rattle.rules.specs.Refusals.{accepted}
-use Rattle.rules.specs.Run.{afterMeasurement, afterHit, afterWrite, afterCall, afterSet, afterAssign, afterWeek, effect, next, run}
+use Rattle.rules.specs.Run.{afterMeasurement, afterHit, afterWrite, afterSet, afterAssign, effect, next, run}
 use Rattle.rules.specs.Laws.{SoundHistory}
 use Rattle.rules.specs.Comparison.{EndsByCommand3}
 use Rattle.rules.proofs.Tests.{if-case, clash}
@@ -49,9 +50,9 @@ Stands : State → Event → Type 0
 Stands s e = (readyBlocks ≤ length (next s e .history .kept)) ⊎ ((e ≡ write 0x26 3) × (accepted s e ≡ true))
 
 stands : (s : State) (e : Event) → SoundHistory (s .history) → readyBlocks ≤ length (s .history .kept) → Stands s e
-unfolding Stands next effect ticked step5 steps1to4 afterMeasurement afterHit afterWrite afterCall afterSet afterAssign afterWeek openEmptied withBlocks
-stands s (tick mask lock x) w k =
-    inl (if-case (λ (z : State). readyBlocks ≤ length (z .history .kept)) (accepted s (tick mask lock x)) (λ e. recorded-ready _ _ _ x (s .history) k) (λ e. k))
+unfolding Stands next effect ticked step5 steps1to4 afterMeasurement afterHit afterWrite afterSet afterAssign openEmptied withBlocks
+stands s (tick t) w k =
+    inl (if-case (λ (z : State). readyBlocks ≤ length (z .history .kept)) (accepted s (tick t)) (λ e. recorded-ready _ _ _ (t .sample) (s .history) k) (λ e. k))
 stands s (measurement i x) w k = inl (if-case (λ (z : State). readyBlocks ≤ length (z .history .kept)) (accepted s (measurement i x)) (λ e. k) (λ e. k))
 stands s hit w k = inl (if-case (λ (z : State). readyBlocks ≤ length (z .history .kept)) (accepted s hit) (λ e. k) (λ e. k))
 stands s (setBucket n size setLevel clearLevel d) w k =
@@ -65,7 +66,7 @@ stands s (write a v) w k = if-case Or (accepted s (write a v)) (λ e. yes e (eqb
     Or z = (readyBlocks ≤ length (z .history .kept)) ⊎ ((write a v ≡ write 0x26 3) × (accepted s (write a v) ≡ true))
 
     yes : accepted s (write a v) ≡ true → (b : Bool) → eqb a 0x26 ≡ b
-        → (readyBlocks ≤ length ((if b then commanded v (s .history) else s .history) .kept)) ⊎ ((write a v ≡ write 0x26 3) × (accepted s (write a v) ≡ true))
+        → (readyBlocks ≤ length ((if b then withHistory (commanded v (s .history)) s else withSettings (written a v (s .settings)) s) .history .kept)) ⊎ ((write a v ≡ write 0x26 3) × (accepted s (write a v) ≡ true))
     yes e false is = inl k
     yes e true is = three (commanded-ready v (s .history) (allowed s a v w e is) k)
       where

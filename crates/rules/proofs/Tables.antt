@@ -43,9 +43,9 @@ unfolding inMap slot
 past-map a h = rw (lt-leb a 0x27 (omega arith), lt-leb a 0x4e (omega arith), and-false (leb 0x1c a), and-false (leb 0x40 a)) refl
 
 -- each address of the map is that of the row at its slot
-pub map-places : Map
+pub map-slots : Map
 unfolding register slot registers
-map-places a m =
+map-slots a m =
     by-test (ltb a 0x4f)
     (λ e. eqb-true (register a .address) a (at-below (λ k. eqb (register k .address) k) 0x4f refl a (ltb-true a 0x4f e)))
     (λ e. clash m (past-map a (ltb-false a 0x4f e)))

@@ -1,14 +1,13 @@
 -- A run of blocked ticks (#107): it ends with its window, over the week's end too, so it is no longer than the longest of them.
 use Prim.Native.Nat.{ℕ, zero, suc, _+_, _-_, _≤_, _<_, max}
-use mathlib.Core.Path.{_≡_, refl, sym, _∙_}
-use mathlib.Core.Logic.{inl, inr}
-use mathlib.Core.Bool.{Bool, true, false, not, _&&_, _||_, false≢true}
+use mathlib.Core.Path.{_≡_, refl}
+use mathlib.Core.Bool.{true, false, not, _&&_, false≢true}
 use mathlib.Core.List.{List, [], _∷_}
 use native.Mathlib.Omega.{arith}
 use native.Mathlib.Nat.{not-suc-le-zero}
-use lib.Dec.{leb, ltb, eqb}
+use lib.Dec.{leb, ltb}
 use lib.ListN.{length}
-use borrow.Author.Tests.{eqb-true, leb-true, leb-false, ltb-true, ltb-false, eq-eqb, le-leb, lt-leb, le-ltb, lt-ltb}
+use borrow.Author.Tests.{leb-true, leb-false, ltb-true, ltb-false, eq-eqb, le-leb, lt-leb, le-ltb, lt-ltb}
 use Rattle.rules.specs.Words.{if_then_else_}
 use Rattle.rules.specs.Week.{weekTicks, Window, inWindow, busy, advanced, longest, isWindow, ascending, startsWeek, lastEnd, endsWeek, windowsFit}
 use Rattle.rules.specs.BusyHours.{placeAfter, BlockedRun}

@@ -7,7 +7,7 @@ use mathlib.Core.List.{List, [], _∷_, _++_, map}
 use lib.IntN.{pos, negsuc}
 use lib.ListN.{length, replicate, set, take}
 use Rattle.rules.specs.Words.{if_then_else_}
-use Rattle.rules.specs.Events.{Event, tick, measurement, oldKind, hit, write, setBucket, assignBucket, setWeek, setWindows}
+use Rattle.rules.specs.Events.{Event, tickWith, measurement, oldKind, hit, write, setBucket, assignBucket, setWeek, setWindows}
 use Rattle.rules.specs.Monitors.{Activity, Input, measured, fullSoak, freshInput}
 use Rattle.rules.specs.Pll.{holdover, preLocked}
 use Rattle.rules.specs.Settings.{Settings}
@@ -15,12 +15,12 @@ use Rattle.rules.specs.Week.{Window, advanced}
 use Rattle.rules.specs.Inputs.{Inputs, input}
 use Rattle.rules.specs.Selection.{Choice, settled, chosen, waitAfter, switches}
 use Rattle.rules.specs.History.{History, ready, withBlocks, completed, noted, value, replaced, commanded, freshHistory}
-use Rattle.rules.specs.State.{State, selected}
+use Rattle.rules.specs.State.{State, selected, withInputs, withSettings, withLoop, withHolding}
 use Rattle.rules.specs.Tick.{holdingAfter}
 use Rattle.rules.specs.Registers.{slot, written, freshTable, fresh}
-use Rattle.rules.specs.Reading.{stateByte, read}
+use Rattle.rules.specs.Reading.{read}
 use Rattle.rules.specs.Refusals.{refusal}
-use Rattle.rules.specs.Run.{withInputs, next, run}
+use Rattle.rules.specs.Run.{next, run}
 use Rattle.rules.specs.Loading.{loads, freshFrom, loading}
 use Rattle.rules.specs.Sheet.{event, bad, fields, decode, check}
 use Rattle.rules.specs.Printout.{ascii, decimal, hexadecimal}
@@ -47,22 +47,11 @@ waiting = record { selected = 3; wait = 3; awaited = 2 }
 
 -- a fresh unit with these inputs and settings
 abbrev unit : Settings → Inputs → State
-unit set inputs =
-    record { inputs = inputs; buckets = fresh .buckets; settings = set; loop = fresh .loop; choice = fresh .choice; history = fresh .history; holding = fresh .holding; week = fresh .week }
+unit set inputs = withSettings set (withInputs inputs fresh)
 
 -- in Holdover for so many ticks
 abbrev inHoldover : ℕ → State
-inHoldover n =
-    record {
-      inputs = fresh .inputs;
-      buckets = fresh .buckets;
-      settings = fresh .settings;
-      loop = record { mode = holdover; lockRun = 0; unlockRun = 0 };
-      choice = fresh .choice;
-      history = fresh .history;
-      holding = n;
-      week = fresh .week;
-    }
+inHoldover n = withLoop (record { mode = holdover; lockRun = 0; unlockRun = 0 }) (withHolding n fresh)
 
 -- so many blocks in use, with a mean of 0, and so many building, with a mean of 1; the last reference is none
 abbrev blocks : ℕ → ℕ → History
@@ -77,7 +66,7 @@ full size = record { level = size; decay = 0; alarm = true }
 
 -- the soak of input 1, qualified, after set 0 is set to S, 1, 0, 0 and a tick is clean
 abbrev soakOver : ℕ → ℕ
-soakOver size = input (run (unit (setting 0 0 0) (clocks true true true)) (setBucket 0 size 1 0 0 ∷ tick 0 true (pos 0) ∷ []) .inputs) 1 .soak
+soakOver size = input (run (unit (setting 0 0 0) (clocks true true true)) (setBucket 0 size 1 0 0 ∷ tickWith 0 true (pos 0) ∷ []) .inputs) 1 .soak
 
 -- the standard table with another value for one register
 abbrev tableWith : ℕ → ℕ → List ℕ
@@ -100,9 +89,9 @@ windowsOf count = take count (map (λ k. window (2 * k) (2 * k + 1)) (0 ∷ 1 �
 
 -- 2 is selected and revertive, 1 is better, and there is no delay: what is selected after a tick at this place, with a window of the places 4 and 5
 abbrev afterTick : ℕ → ℕ
-afterTick slot =
-    let start = run (unit (setting 0 0 0b1000) (clocks false true false)) (tick 0 false (pos 0) ∷ setWindows (window 4 6 ∷ []) ∷ setWeek slot ∷ []) in
-    selected (next (withInputs (clocks true true false) start) (tick 0 false (pos 0)))
+afterTick place =
+    let start = run (unit (setting 0 0 0b1000) (clocks false true false)) (tickWith 0 false (pos 0) ∷ setWindows (window 4 6 ∷ []) ∷ setWeek place ∷ []) in
+    selected (next (withInputs (clocks true true false) start) (tickWith 0 false (pos 0)))
 
 -- ---- the table
 
@@ -129,15 +118,15 @@ table =
     -- "one fixed on input 1"
     ∷ chosen false (setting 0 0 0) (clocks false true false) (settled 0) .selected is 2
     -- "one that settles at the first tick and only copies its record later": 1 is selected, and lost by a Hit
-    ∷ stateByte (run (unit (setting 0 0 0) (clocks true false false)) (tick 0 false (pos 0) ∷ [])) is 0x21
-    ∷ stateByte (run (unit (setting 0 0 0) (clocks true false false)) (tick 0 false (pos 0) ∷ hit ∷ [])) is 0x00
+    ∷ read (run (unit (setting 0 0 0) (clocks true false false)) (tickWith 0 false (pos 0) ∷ [])) 0x48 .byte is 0x21
+    ∷ read (run (unit (setting 0 0 0) (clocks true false false)) (tickWith 0 false (pos 0) ∷ hit ∷ [])) 0x48 .byte is 0x00
     -- "one that takes the best unmasked input unjudged"
     ∷ chosen false (setting 0 0 0) (clocks false false false) (settled 0) .selected is 0
     -- manual: "selects s if qualified, masked or not, else 0"
     ∷ chosen false (written 0x41 2 (written 0x42 0 (fresh .settings))) (clocks true true false) (settled 1) .selected is 2
     ∷ chosen false (written 0x41 3 (fresh .settings)) (clocks true true false) (settled 1) .selected is 0
     -- "one that refuses each event"
-    ∷ refusal fresh (tick 0 false (pos 0)) is 0
+    ∷ refusal fresh (tickWith 0 false (pos 0)) is 0
     ∷ refusal fresh (write 0x40 1) is 0
     -- a refused event changes nothing
     ∷ refusal fresh (write 0x40 2) is 3
@@ -179,8 +168,8 @@ table =
     ∷ activityOf 1 (run fresh (assignBucket 2 1 ∷ setBucket 1 255 1 0 3 ∷ [])) is freshInput .activity
     -- a level above S after a smaller set; set 0's numbers for all; a decay of d ticks
     ∷ activityOf 1 (run fresh (setBucket 0 255 1 0 3 ∷ setBucket 0 8 6 4 1 ∷ [])) is full 8
-    ∷ activityOf 2 (run fresh (setBucket 1 9 6 4 0 ∷ assignBucket 2 1 ∷ tick 0 true (pos 0) ∷ [])) .level is 8
-    ∷ activityOf 2 (run fresh (setBucket 1 9 6 4 3 ∷ assignBucket 2 1 ∷ replicate 7 (tick 0 true (pos 0)))) .level is 9
+    ∷ activityOf 2 (run fresh (setBucket 1 9 6 4 0 ∷ assignBucket 2 1 ∷ tickWith 0 true (pos 0) ∷ [])) .level is 8
+    ∷ activityOf 2 (run fresh (setBucket 1 9 6 4 3 ∷ assignBucket 2 1 ∷ replicate 7 (tickWith 0 true (pos 0)))) .level is 9
     -- a soak that a call interrupts by itself: with S = L + 1 and d = 0 a clean tick clears the alarm at once
     ∷ soakOver 1 is 79
     ∷ soakOver 2 is 0
@@ -254,7 +243,7 @@ readings =
 
 unfoldable pub hours : List Row
 hours =
-    -- a slot past the week's end, nine windows, an empty one, or one past the week's end let through; those at the bounds refused
+    -- a place past the week's end, nine windows, an empty one, or one past the week's end let through; those at the bounds refused
     refusal fresh (setWeek 4_725_000) is 16
     ∷ refusal fresh (setWeek 4_724_999) is 0
     ∷ refusal fresh (setWindows (windowsOf 9)) is 16
@@ -274,15 +263,15 @@ hours =
     ∷ refusal fresh (setWindows (window 0 1 ∷ window 4_724_998 4_724_999 ∷ [])) is 0
     ∷ refusal fresh (setWindows (window 1 2 ∷ window 4_724_999 4_725_000 ∷ [])) is 0
     -- a call that changes the other's part; one that is turned down and stores
-    ∷ run fresh (setWindows (window 1 2 ∷ []) ∷ setWeek 7 ∷ []) .week is record { slot = 7; windows = window 1 2 ∷ [] }
-    ∷ run fresh (setWeek 7 ∷ setWindows (window 1 2 ∷ []) ∷ []) .week is record { slot = 7; windows = window 1 2 ∷ [] }
-    ∷ run fresh (setWeek 7 ∷ setWeek 4_725_000 ∷ setWindows (window 2 2 ∷ []) ∷ []) .week is record { slot = 7; windows = [] }
-    -- a slot that goes past the week's end, or returns too early; a refused tick that advances it, or a write; a tick that does not, or a Hit that does
+    ∷ run fresh (setWindows (window 1 2 ∷ []) ∷ setWeek 7 ∷ []) .week is record { place = 7; windows = window 1 2 ∷ [] }
+    ∷ run fresh (setWeek 7 ∷ setWindows (window 1 2 ∷ []) ∷ []) .week is record { place = 7; windows = window 1 2 ∷ [] }
+    ∷ run fresh (setWeek 7 ∷ setWeek 4_725_000 ∷ setWindows (window 2 2 ∷ []) ∷ []) .week is record { place = 7; windows = [] }
+    -- a place that goes past the week's end, or returns too early; a refused tick that advances it, or a write; a tick that does not, or a Hit that does
     ∷ advanced 4_724_999 is 0
     ∷ advanced 4_724_998 is 4_724_999
-    ∷ run fresh (tick 0 false (pos 125_000_001) ∷ write 0x40 1 ∷ []) .week .place is 0
-    ∷ run (unit (setting 0 0 0) (clocks true false false)) (tick 0 false (pos 0) ∷ hit ∷ []) .week .place is 1
-    -- a start that lets through, an end that blocks; a slot that advances before the selection
+    ∷ run fresh (tickWith 0 false (pos 125_000_001) ∷ write 0x40 1 ∷ []) .week .place is 0
+    ∷ run (unit (setting 0 0 0) (clocks true false false)) (tickWith 0 false (pos 0) ∷ hit ∷ []) .week .place is 1
+    -- a start that lets through, an end that blocks; a place that advances before the selection
     ∷ afterTick 4 is 2
     ∷ afterTick 5 is 2
     ∷ afterTick 3 is 1

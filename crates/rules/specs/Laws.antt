@@ -220,7 +220,7 @@ NotReady = (start : State) → Fresh start → Ready start ≡ false
 abbrev pub Refused : Type 0
 Refused = (s : State) (e : Event) → accepted s e ≡ false → next s e ≡ s
 
--- the map has each address at its place
+-- the map has each address at its slot
 abbrev pub Map : Type 0
 Map = (a : ℕ) → inMap a ≡ true → register a .address ≡ a
 

@@ -62,7 +62,7 @@ oldEffect s (setBucket n size setLevel clearLevel d) = effect s (setBucket n siz
 oldEffect s (assignBucket i n) = effect s (assignBucket i n)
 oldEffect s (setWeek place) = effect s (setWeek place)
 oldEffect s (setWindows windows) = effect s (setWindows windows)
-oldEffect s (write a v) = withHistory (if eqb a 0x26 then oldCommanded v (s .history) else s .history) (effect s (write a v))
+oldEffect s (write a v) = if eqb a 0x26 then withHistory (oldCommanded v (s .history)) s else effect s (write a v)
 
 -- what any event leaves: one that is turned down leaves the state as it was
 unfoldable pub oldNext : State → Event → State

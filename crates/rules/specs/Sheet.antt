@@ -1,7 +1,7 @@
 -- Document 01, "Run sheet and rack program", with the kind of request #106 of document 02: a run sheet, its check, and the records of its run. Sheets and
 -- outputs are lists of bytes.
 use Prim.Native.Nat.{ℕ, zero, suc, _+_, _*_, _-_}
-use mathlib.Core.Bool.{Bool, true, false, not, _&&_, _||_}
+use mathlib.Core.Bool.{Bool, true, not, _&&_, _||_}
 use mathlib.Core.List.{List, [], _∷_, _++_}
 use lib.Dec.{leb, ltb, eqb}
 use lib.IntN.{ℤ, pos, negsuc, natAbs}
