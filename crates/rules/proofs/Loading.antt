@@ -11,7 +11,7 @@ use Rattle.rules.specs.Words.{every}
 use Rattle.rules.specs.Settings.{Settings}
 use Rattle.rules.specs.History.{freshHistory}
 use Rattle.rules.specs.State.{State}
-use Rattle.rules.specs.Registers.{Register, registers, reads, slot, inMap, register, largest, stored, settingsFrom, freshWith, freshTable, fresh}
+use Rattle.rules.specs.Registers.{Register, registers, reads, mapSize, slot, inMap, register, largest, stored, settingsFrom, freshWith, freshTable, fresh}
 use Rattle.rules.specs.Reading.{content, read}
 use Rattle.rules.specs.Refusals.{limitsApart}
 use Rattle.rules.specs.Loading.{most, fits, loads, freshFrom, Fresh}
@@ -31,14 +31,14 @@ most-largest r = if-le (r .readOnly || eqb (r .address) 0x26) (omega arith) (ome
 
 module _ (table : List ℕ) (ok : loads table ≡ true) where
   abbrev of-bytes : Bool
-  of-bytes = eqb (length table) 27 && every (fits table) registers
+  of-bytes = eqb (length table) mapSize && every (fits table) registers
 
   first : of-bytes ≡ true
   unfolding loads
   first = and-left of-bytes (limitsApart (settingsFrom table)) ok
 
-  pub whole-loaded : length table ≡ 27
-  whole-loaded = eqb-true (length table) 27 (and-left (eqb (length table) 27) (every (fits table) registers) first)
+  pub whole-loaded : length table ≡ mapSize
+  whole-loaded = eqb-true (length table) mapSize (and-left (eqb (length table) mapSize) (every (fits table) registers) first)
 
   -- what it has for a register of the map
   within : (a : ℕ) → inMap a ≡ true → settingsFrom table a ≤ most (register a)
@@ -46,15 +46,15 @@ module _ (table : List ℕ) (ok : loads table ≡ true) where
   within a m =
       subst (λ b. settingsFrom table b ≤ most (register a)) (map-slots a m)
       (leb-true (settingsFrom table (register a .address)) (most (register a))
-      (at-index (fits table) registers (reads a) (and-right (eqb (length table) 27) (every (fits table) registers) first) (slot a)
-      (λ past. absurd (omega (arith, ltb-true (slot a) 27 m)))))
+      (at-index (fits table) registers (reads a) (and-right (eqb (length table) mapSize) (every (fits table) registers) first) (slot a)
+      (λ past. absurd (omega (arith, ltb-true (slot a) mapSize m)))))
 
   -- and for any address
   largest-loaded : (a : ℕ) → settingsFrom table a ≤ largest a
   unfolding largest inMap settingsFrom
   largest-loaded a =
       by-test (inMap a) (λ m. omega (arith, within a m, most-largest (register a)))
-      (λ m. rw (List·getD-eq-default table 0 {n = slot a} (omega (arith, whole-loaded, ltb-false (slot a) 27 m))) (omega arith))
+      (λ m. rw (List·getD-eq-default table 0 {n = slot a} (omega (arith, whole-loaded, ltb-false (slot a) mapSize m))) (omega arith))
 
   -- the settings of the unit that it makes
   pub sound-loaded : SoundSettings (λ a. stored a (settingsFrom table a))

@@ -8,7 +8,7 @@ use lib.Dec.{leb, eqb}
 use lib.ListN.{length}
 use Rattle.rules.specs.Words.{if_then_else_, every}
 use Rattle.rules.specs.State.{State}
-use Rattle.rules.specs.Registers.{Register, registers, stored, settingsFrom, freshWith}
+use Rattle.rules.specs.Registers.{Register, registers, mapSize, stored, settingsFrom, freshWith}
 use Rattle.rules.specs.Refusals.{limitsApart}
 use Rattle.rules.specs.Run.{Outcome}
 
@@ -22,7 +22,7 @@ fits table r = leb (settingsFrom table (r .address)) (most r)
 
 -- a table loads
 unfoldable pub loads : List ℕ → Bool
-loads table = eqb (length table) 27 && every (fits table) registers && limitsApart (settingsFrom table)
+loads table = eqb (length table) mapSize && every (fits table) registers && limitsApart (settingsFrom table)
 
 -- 15: "wrong length, a forbidden nonzero, a value above Largest or reject − qualification under 6; the only check of loading"
 unfoldable pub loadRefusal : List ℕ → ℕ

@@ -67,12 +67,16 @@ registers =
     ∷ reads 0x4e
     ∷ []
 
--- the slot of an address in the map, 0 to 26; 27 for an address that is not in it
+-- how many registers the map has
+abbrev pub mapSize : ℕ
+mapSize = 27
+
+-- the slot of an address in the map, from 0; `mapSize` for an address that is not in it
 unfoldable pub slot : ℕ → ℕ
-slot a = if between 0x1c 0x27 a then a - 0x1c else (if between 0x40 0x4e a then a - 0x34 else 27)
+slot a = if between 0x1c 0x27 a then a - 0x1c else (if between 0x40 0x4e a then a - 0x34 else mapSize)
 
 unfoldable pub inMap : ℕ → Bool
-inMap a = ltb (slot a) 27
+inMap a = ltb (slot a) mapSize
 
 unfoldable pub register : ℕ → Register
 register a = getD registers (slot a) (reads a)
