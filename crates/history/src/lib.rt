@@ -239,13 +239,7 @@ pub fn recorded(
 
 // `commanded`: 1 copies the blocks in use to backup, 2 replaces them by the backup, 3 empties them; 2 and 3 empty the building history and the open block too;
 // any other is only noted. The count empties the building history; zeros are written over its sums so that they lie in memory at each tick.
-pub fn commanded(
-    c: u8,
-    t: Tally,
-    sums: &mut Sums,
-    building: &mut Sums,
-    backup: &mut Sums,
-) -> Tally
+pub fn commanded(c: u8, t: Tally, sums: &mut Sums, building: &mut Sums, backup: &mut Sums) -> Tally
     ensures { λ r. ⌜ historyOf r (now (sums .exit)) (now (building .exit)) (now (backup .exit)) ≡ rules.commanded c (historyOf t (now (sums .entry)) (now (building .entry)) (now (backup .entry))) ⌝ }
 {
     let mut next = t;

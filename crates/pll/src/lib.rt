@@ -183,7 +183,14 @@ fn newly_selected(mode: u32) -> u32
 }
 
 // The state where `before` was selected and `next` now is.
-pub fn mode_after(automatic: bool, opmode: u8, ready: bool, before: u32, next: u32, mode: u32) -> u32
+pub fn mode_after(
+    automatic: bool,
+    opmode: u8,
+    ready: bool,
+    before: u32,
+    next: u32,
+    mode: u32,
+) -> u32
     ensures { λ r. ⌜ modeOf r ≡ modeAfter automatic opmode ready before next (modeOf mode) ⌝ }
 {
     if freed(automatic, opmode, next) {

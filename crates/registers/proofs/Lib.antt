@@ -1,3 +1,3 @@
--- Laws of the registers' table and of their places, which the proofs cite.
+-- Laws of the registers' table and of their slots, which the proofs cite.
 pub mod Table
-pub mod Places
+pub mod Slots

@@ -3,7 +3,7 @@
 // The bytes of 0x26 and of the registers that are read only stay 0: what these show is kept elsewhere.
 ghost use mathlib.Core.Path.{_≡_};
 ghost use Prim.Native.Nat.{_+_};
-ghost use lib.ListN.{getD};
+ghost use lib.ListN.{length, getD};
 ghost use Rattle.rules.specs.Settings as settings;
 ghost use Rattle.rules.specs.Registers as rules;
 ghost use Rattle.rules.specs.Registers.{settingsFrom, freshTable};
@@ -17,9 +17,13 @@ pub type Registers = [u8; 32];
 
 // The slots of registers that are read by their slot.
 pub const FREE_RUN_SLOT: usize = 8;
+
 pub const COMMAND_SLOT: usize = 10;
+
 pub const MASK_SLOT: usize = 14;
+
 pub const REJECT_SLOT: usize = 16;
+
 pub const QUALIFICATION_SLOT: usize = 17;
 
 // A row of the table: the columns Fresh, R and Largest.
@@ -183,6 +187,13 @@ pub fn fresh_registers() -> Registers
 }
 
 // ---- the settings
+
+// The bytes are 32: what their type says, as a fact. It costs nothing when compiled.
+pub fn bytes(regs: Registers) -> usize
+    ensures { λ r. ⌜ (r ≡ 32) × (length regs ≡ 32) ⌝ }
+{
+    regs.len()
+}
 
 // The setting at an address. An address that is not in the map has the byte behind the last register.
 pub fn setting(regs: &Registers, a: u8) -> u8

@@ -1,2 +1,2 @@
 -- A law of tables, which the proof of the table of waits cites.
-pub mod Match
+pub mod Table

@@ -13,7 +13,7 @@ use Rattle.rules.specs.Settings.{Settings}
 use Rattle.rules.specs.Registers.{slot, inMap, stored, written, settingsFrom}
 use Rattle.rules.specs.Refusals.{writeRefusal}
 use Rattle.rules.proofs.Tests.{if-case, unrefused}
-use Rattle.registers.proofs.Places.{one-address}
+use Rattle.registers.proofs.Slots.{one-address}
 
 -- ---- what a write is turned down with
 
@@ -25,7 +25,7 @@ accepted-in-map set ready held a v e = not-false (inMap a) (unrefused (not (inMa
 -- ---- what it leaves
 
 -- a byte is stored at a slot of the map
-pub write-in : (regs : List ℕ) (a v k x : ℕ) → length regs ≡ 27 → k ≡ slot a → x ≡ stored a v → k < 27
+pub write-in : (regs : List ℕ) (a v k x : ℕ) → length regs ≡ 32 → k ≡ slot a → x ≡ stored a v → k < 27
     → settingsFrom (set regs k x) ≡ (if inMap a then written a v (settingsFrom regs) else settingsFrom regs)
 unfolding settingsFrom written inMap
 write-in regs a v k x l e s h = rw (lt-ltb (slot a) 27 (omega arith)) (λ i b. at b i)

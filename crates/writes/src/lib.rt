@@ -9,6 +9,7 @@ ghost use Rattle.rules.specs.Registers.{settingsFrom};
 ghost use Rattle.rules.specs.Refusals.{limitsRefused, commandRefused, writeRefusal};
 use registers::REGISTERS;
 use registers::Registers;
+use registers::bytes;
 use registers::in_map;
 use registers::register_at;
 use registers::setting;
@@ -28,6 +29,7 @@ pub fn written(regs: &mut Registers, a: u8, v: u8)
 {
     let k = slot(a);
     if k < REGISTERS {
+        bytes(*regs);
         regs[k] = stored(a, v);
     }
 }

@@ -6,18 +6,19 @@ use borrow.Author.Needs.{needs}
 use lib.ListN.{length, take}
 use Rattle.rules.specs.Registers as rules
 use Rattle.registers.specs.Bridge.{row}
-use Rattle.registers.proofs.Table.{column-more, column-all}
+use Rattle.registers.proofs.Table.{behind, column-more, behind-more, column-all}
 use Rattle.registers.proofs.fresh_registers.Statement.{statement}
 use Rattle.registers.proofs.fresh_registers.Tie as tie
 
 abbrev Inv-loop : tie.InvT-loop
-Inv-loop table regs₀ k₀ regs k = (k ≤ 27) × (length regs ≡ 27) × (take k regs ≡ take k rules.freshTable)
+Inv-loop table regs₀ k₀ regs k = (k ≤ 27) × (length regs ≡ 32) × (take k regs ≡ take k rules.freshTable) × (behind regs ≡ 0)
 
 abbrev μ-loop : tie.MeasureT-loop
 μ-loop table regs₀ k₀ regs k = 27 - k
 
 loop-holds : tie.Need-loop-holds Inv-loop μ-loop
-loop-holds c = (omega arith, refl, refl)
+unfolding behind
+loop-holds c = (omega arith, refl, refl, refl)
 
 mul-regs : tie.Need-mul-regs Inv-loop μ-loop
 mul-regs c = search needs
@@ -36,10 +37,10 @@ loop-less c = search needs
 
 loop-again : tie.Need-loop-again Inv-loop μ-loop
 unfolding rules.registers row
-loop-again c = (omega arith, search needs, column-more _ _ refl _ _ (c .before .loop .inv .1) (c .loop-test .taken) (c .before .loop .inv .2))
+loop-again c = (omega arith, search needs, column-more _ _ refl _ _ (c .before .loop .inv .1) (c .loop-test .taken) (c .before .loop .inv .2), behind-more _ _ refl _ _ (c .loop-test .taken) (c .before .loop .inv .3))
 
 returns : tie.Need-returns Inv-loop μ-loop
-returns c = column-all _ _ (c .loop-test .left) (c .before .loop .inv .1) (c .before .loop .inv .2)
+returns c = column-all _ _ (c .loop-test .left) (c .before .loop .inv .3) (c .before .loop .inv .2)
 
 pub fresh-registers-spec : {M : Type 1} → statement M
 fresh-registers-spec =

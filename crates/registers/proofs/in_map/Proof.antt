@@ -6,7 +6,7 @@ use Rattle.registers.proofs.in_map.Tie as tie
 
 returns : tie.Need-returns
 unfolding rules.inMap
-returns c = rw (c .place .ensures)
+returns c = rw (c .slot .ensures)
 
 pub in-map-spec : {M : Type 1} → statement M
 in-map-spec = tie.close (tie.spec (search needs) returns)

@@ -14,7 +14,7 @@ unfolding rules.register
 returns c =
     let a = c .before .before .args .a in
     c .row-at .ensures
-    ∙ ap (λ (k : ℕ). row (getD rules.registers k (rules.reads 0))) (c .before .place .ensures)
+    ∙ ap (λ (k : ℕ). row (getD rules.registers k (rules.reads 0))) (c .before .slot .ensures)
     ∙ any-row (rules.slot a) 0 a
 
 pub register-at-spec : {M : Type 1} → statement M

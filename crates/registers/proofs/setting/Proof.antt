@@ -1,20 +1,17 @@
--- `setting` meets its contract, by what `place` ensures: past the 27 registers there is nothing.
-use mathlib.Core.Path.{sym}
+-- `setting` meets its contract, by what `slot` ensures: no slot is past the one behind the last register.
 use native.Mathlib.Omega.{arith}
 use borrow.Author.Needs.{needs}
 use Rattle.rules.specs.Registers as rules
-use Rattle.registers.proofs.Places.{setting-outside}
+use Rattle.registers.proofs.Slots.{slot-le}
 use Rattle.registers.proofs.setting.Statement.{statement}
 use Rattle.registers.proofs.setting.Tie as tie
 
+element-copy-out-result : tie.Need-element-copy-out-result
+element-copy-out-result c = omega (arith, slot-le (c .before .args .a))
+
 returns : tie.Need-returns
 unfolding rules.settingsFrom
-returns c = rw (c .before .before .place .ensures)
-
-returns-2 : tie.Need-returns-2
-returns-2 c =
-    let a = c .before .before .before .before .args in
-    sym (setting-outside (a .regs .now) (a .a) (c .bytes .ensures) (omega arith))
+returns c = rw (c .before .slot .ensures)
 
 pub setting-spec : {M : Type 1} → statement M
-setting-spec = tie.close (tie.spec (search needs) (search needs) returns (search needs) returns-2)
+setting-spec = tie.close (tie.spec (search needs) element-copy-out-result returns)

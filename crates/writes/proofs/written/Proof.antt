@@ -1,4 +1,4 @@
--- `written` meets its contract: a place belongs to one address alone (`write-in`, `write-out`).
+-- `written` meets its contract: a slot belongs to one address alone (`write-in`, `write-out`).
 use native.Mathlib.Omega.{arith}
 use borrow.Author.Needs.{needs}
 use Rattle.writes.proofs.Writes.{write-in, write-out}
@@ -8,8 +8,8 @@ use Rattle.writes.proofs.written.Tie as tie
 returns : tie.Need-returns
 returns c =
     let a = c .before .before .before .before .before .args in
-    let k = c .before .before .before .before .place in
-    write-in (a .regs .now) (a .a) (a .v) (k .result) (c .stored .result) (c .before .bytes .ensures) (k .ensures) (c .stored .ensures) (c .before .before .before .if1 .taken)
+    let k = c .before .before .before .before .slot in
+    write-in (a .regs .now) (a .a) (a .v) (k .result) (c .stored .result) (c .before .bytes .ensures .1) (k .ensures) (c .stored .ensures) (c .before .before .before .if1 .taken)
 
 returns-2 : tie.Need-returns-2
 returns-2 c = write-out (c .before .before .args .regs .now) (c .before .before .args .a) (c .before .before .args .v) (omega arith)

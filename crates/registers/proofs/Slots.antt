@@ -1,10 +1,10 @@
--- The slot of an address in the map belongs to that address alone. An address that is not in the map has the setting 0.
+-- The slot of an address in the map belongs to that address alone. An address that is not in the map has the slot behind the last register.
 use Prim.Native.Nat.{ℕ, _+_, _-_, _≤_, _<_}
 use mathlib.Core.Path.{_≡_, ap, sym, _∙_}
 use mathlib.Core.List.{List}
 use native.Mathlib.Omega.{arith}
 use lib.Dec.{ltb}
-use lib.ListN.{length, getD, List·getD-eq-default}
+use lib.ListN.{getD}
 use borrow.Author.Tests.{lt-ltb, le-ltb, le-leb, lt-leb}
 use Rattle.rules.specs.Words.{if_then_else_, between}
 use Rattle.rules.specs.Registers.{slot, settingsFrom}
@@ -15,9 +15,9 @@ abbrev pub addressAt : ℕ → ℕ
 addressAt k = if ltb k 12 then k + 0x1c else k + 0x34
 
 -- the address at the slot of an address in the map is that address
-pub address-place : (a : ℕ) → slot a < 27 → addressAt (slot a) ≡ a
+pub address-slot : (a : ℕ) → slot a < 27 → addressAt (slot a) ≡ a
 unfolding slot
-address-place a =
+address-slot a =
     if-case (λ k. k < 27 → addressAt k ≡ a) (between 0x1c 0x27 a)
     (λ e h. rw (lt-ltb (a - 0x1c) 12 (omega (arith, low 0x1c 0x27 a e, high 0x1c 0x27 a e))) (omega (arith, low 0x1c 0x27 a e)))
     (λ _. if-case (λ k. k < 27 → addressAt k ≡ a) (between 0x40 0x4e a)
@@ -26,17 +26,25 @@ address-place a =
 
 -- a slot of the map belongs to one address alone
 pub one-address : (a b : ℕ) → slot a < 27 → slot b ≡ slot a → b ≡ a
-one-address a b h e = sym (address-place b (omega arith)) ∙ ap addressAt e ∙ address-place a h
+one-address a b h e = sym (address-slot b (omega arith)) ∙ ap addressAt e ∙ address-slot a h
 
--- with no slot in the map, the setting is 0
-pub setting-outside : (regs : List ℕ) (a : ℕ) → length regs ≡ 27 → 27 ≤ slot a → settingsFrom regs a ≡ 0
+-- no slot is past the one behind the last register
+pub slot-le : (a : ℕ) → slot a ≤ 27
+unfolding slot
+slot-le a =
+    if-case (λ k. k ≤ 27) (between 0x1c 0x27 a)
+    (λ e. omega (arith, high 0x1c 0x27 a e))
+    (λ _. if-case (λ k. k ≤ 27) (between 0x40 0x4e a) (λ e. omega (arith, high 0x40 0x4e a e)) (λ _. omega arith))
+
+-- registers with the same bytes in these slots have the same settings
+pub same-settings : (r s : List ℕ) → ((k : ℕ) → k ≤ 27 → getD r k 0 ≡ getD s k 0) → settingsFrom r ≡ settingsFrom s
 unfolding settingsFrom
-setting-outside regs a l h = List·getD-eq-default regs 0 {n = slot a} (omega arith)
+same-settings r s h = λ i a. h (slot a) (slot-le a) i
 
 -- an address past 255 has no slot in the map
-pub place-past : (a : ℕ) → 255 < a → slot a ≡ 27
+pub slot-past : (a : ℕ) → 255 < a → slot a ≡ 27
 unfolding slot
-place-past a h = rw (le-leb 0x1c a (omega arith), lt-leb a 0x27 (omega arith), le-leb 0x40 a (omega arith), lt-leb a 0x4e (omega arith))
+slot-past a h = rw (le-leb 0x1c a (omega arith), lt-leb a 0x27 (omega arith), le-leb 0x40 a (omega arith), lt-leb a 0x4e (omega arith))
 
 -- the register of candidate c is byte c - 1
 pub own-register : (regs : List ℕ) (c : ℕ) → 1 ≤ c → c ≤ 9 → settingsFrom regs (0x1b + c) ≡ getD regs (c - 1) 0

@@ -1,10 +1,10 @@
--- `place` meets its contract: each run of addresses starts where the rule has it.
+-- `slot` meets its contract: each run of addresses starts where the rule has it.
 use native.Mathlib.Omega.{arith}
 use borrow.Author.Needs.{needs}
 use borrow.Author.Tests.{le-leb, lt-leb}
 use Rattle.rules.specs.Registers as rules
-use Rattle.registers.proofs.place.Statement.{statement}
-use Rattle.registers.proofs.place.Tie as tie
+use Rattle.registers.proofs.slot.Statement.{statement}
+use Rattle.registers.proofs.slot.Tie as tie
 
 returns : tie.Need-returns
 unfolding rules.slot
@@ -30,5 +30,5 @@ returns-5 c =
     let a = c .before .before .before .before .args .a in
     rw (le-leb 0x1c a (omega arith), lt-leb a 0x27 (omega arith), le-leb 0x40 a (omega arith), lt-leb a 0x4e (omega arith))
 
-pub place-spec : {M : Type 1} → statement M
-place-spec = tie.close (tie.spec returns (search needs) returns-2 returns-3 (search needs) (search needs) returns-4 returns-5)
+pub slot-spec : {M : Type 1} → statement M
+slot-spec = tie.close (tie.spec returns (search needs) returns-2 returns-3 (search needs) (search needs) returns-4 returns-5)
