@@ -1,2 +1,2 @@
 -- Laws of the stored inputs; the other folders prove a function each.
-pub mod Lanes
+pub mod ByLane

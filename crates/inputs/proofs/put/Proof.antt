@@ -1,4 +1,4 @@
--- Past the eighth place a store changes nothing.
+-- Past the eighth lane a store changes nothing.
 use mathlib.Core.Path.{sym}
 use native.Mathlib.Omega.{arith}
 use lib.Seq.{set-out}
@@ -13,7 +13,7 @@ returns c = search needs
 returns-2 : tie.Need-returns-2
 returns-2 c =
     let a = c .before .before .before .args in
-    let eight = c .before .places .ensures in
+    let eight = c .before .lanes .ensures .1 in
     (sym (set-out (now (a .row)) (a .k) (a .v) (omega (arith, eight, c .if1 .left))), eight)
 
 pub put-spec : {M : Type 1} → statement M

@@ -1,4 +1,4 @@
--- The stored numbers by place, and the rules' list of inputs.
+-- The stored numbers by lane, and the rules' list of inputs.
 use Prim.Native.Nat.{ℕ, zero, suc, _-_, _≤_, _<_}
 use mathlib.Core.Path.{_≡_, refl, ap, sym, _∙_}
 use mathlib.Core.Bool.{Bool, true, false, _&&_}
@@ -30,12 +30,12 @@ eight-at f d (suc (suc (suc (suc (suc (suc zero)))))) h = refl
 eight-at f d (suc (suc (suc (suc (suc (suc (suc zero))))))) h = refl
 eight-at f d (suc (suc (suc (suc (suc (suc (suc (suc j)))))))) h = absurd (omega arith)
 
--- the input at a place
+-- the input in a lane
 pub input-at : (m : Monitors) (k : ℕ) → k < 8 → getD (inputsOf m) k freshInput ≡ inputAt m k
 unfolding inputsOf
 input-at m k h = eight-at (inputAt m) freshInput k h
 
--- input c is qualified by the soak at its place
+-- input c is qualified by the soak in its lane
 pub qualified-lane : (m : Monitors) (c k : ℕ) → 1 ≤ c → c ≤ 8 → k ≡ c - 1
     → eqb (getD (m .soak) k 0) fullSoak ≡ (isInput c && qualified (input (inputsOf m) c))
 unfolding qualified
@@ -61,7 +61,7 @@ same-at l k v e h = getD-set-same l k v 0 (omega arith)
 abbrev pub alarmed : Input → Bool → ℕ → ℕ → Input
 alarmed x frequency remainder soak = record { activity = x .activity; frequency = frequency; remainder = remainder; soak = soak }
 
--- input i altered: the numbers at its place are those of the altered input, and the others stay
+-- input i altered: the numbers in its lane are those of the altered input, and the others stay
 pub altered-lane : (f : Input → Input) (m r : Monitors) (i : ℕ) {k : ℕ} → k ≡ i - 1
     → (k < 8 → inputAt r k ≡ f (inputAt m k)) → ((j : ℕ) → (j ≡ k → ⊥) → inputAt r j ≡ inputAt m j)
     → inputsOf r ≡ altered f i (inputsOf m)
@@ -74,21 +74,21 @@ altered-lane f m r i {k} e same other =
 -- ---- an input put at its size
 
 -- number by number, where the test t says that it is concerned
-pub put-place : (t : Bool) (size level decay active : ℕ) (frequency : Bool) (remainder soak : ℕ)
+pub put-lane : (t : Bool) (size level decay activity : ℕ) (frequency : Bool) (remainder soak : ℕ)
     → _≡_ {A = Input}
     (record {
-      activity = record { level = if t then size else level; decay = if t then 0 else decay; alarm = isSet (if t then 1 else active) };
+      activity = record { level = if t then size else level; decay = if t then 0 else decay; alarm = isSet (if t then 1 else activity) };
       frequency = frequency;
       remainder = remainder;
       soak = soak;
     })
     (let x : Input = record {
-      activity = record { level = level; decay = decay; alarm = isSet active };
+      activity = record { level = level; decay = decay; alarm = isSet activity };
       frequency = frequency;
       remainder = remainder;
       soak = soak;
     } in
     if t then atSize size x else x)
 unfolding atSize
-put-place true size level decay active frequency remainder soak = refl
-put-place false size level decay active frequency remainder soak = refl
+put-lane true size level decay activity frequency remainder soak = refl
+put-lane false size level decay activity frequency remainder soak = refl
