@@ -15,7 +15,7 @@ use Rattle.rules.specs.Preference.{Unmasked, Preferred}
 use Rattle.rules.specs.Service.{Provisos, AllFair, selectedTicks, readyTicks, acceptedTicks, Served}
 use Rattle.rules.specs.Registers.{fresh}
 use Rattle.rules.proofs.Loading.{standard}
-use Rattle.rules.proofs.Promise.{promise}
+use Rattle.rules.proofs.Service.{promise}
 use Rattle.rules.proofs.Computing.{computing}
 use Rattle.bounds.specs.Promise.{settings, alarmed, refilled, windowed, moment, oneTick, ticks, AlarmSet, BucketFull, WindowSet, AtStart, AtLargest, AtWindow}
 

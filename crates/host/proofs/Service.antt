@@ -14,7 +14,7 @@ use Rattle.rules.specs.FinerReadings.{finer}
 use Rattle.rules.specs.Service.{Served}
 use Rattle.rules.specs.Sheet.{Decoded, event, bad}
 use Rattle.rules.proofs.Loading.{standard}
-use Rattle.rules.proofs.Promise.{promise, promise-in-figures, promise-without-windows, promise-at-start}
+use Rattle.rules.proofs.Service.{promise, promise-in-figures, promise-without-windows, promise-at-start}
 use Rattle.rules.proofs.Comparison.{never-less-ready}
 use Rattle.rules.proofs.FinerReadings.{finer-readings}
 use Rattle.rules.proofs.Standing.{ends-by-command-3}

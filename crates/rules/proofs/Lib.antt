@@ -33,7 +33,7 @@ pub mod Laws
 pub mod Windows
 pub mod BusyHours
 pub mod Progress
-pub mod Promise
+pub mod Service
 pub mod Alike
 pub mod Commands
 pub mod Behind

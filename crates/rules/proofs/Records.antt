@@ -2,7 +2,7 @@
 use Prim.Native.Nat.{ℕ, _+_, _*_, _%_, _≤_}
 use mathlib.Core.Path.{_≡_, refl, ap, sym, subst, _∙_}
 use mathlib.Core.Bool.{Bool, true, false, _||_}
-use mathlib.Core.List.{List, [], _∷_, _++_, append-assoc}
+use mathlib.Core.List.{List, [], _∷_, _++_, append-assoc, append-nil}
 use native.Mathlib.Omega.{arith}
 use borrow.Author.Tests.{eq-eqb}
 use lib.ListN.{length, getD}
@@ -23,9 +23,10 @@ use Rattle.rules.proofs.Counts.{delays}
 use Rattle.rules.proofs.SoundBuckets.{start-bucket}
 use Rattle.rules.proofs.Callless.{callless-front, no-calls, untouched}
 use Rattle.rules.proofs.Loading.{standard}
-use Rattle.rules.proofs.Promise.{run-append, promise-at-start}
+use Rattle.rules.proofs.Service.{run-append, promise-at-start}
 use Rattle.rules.proofs.Sheets.{record-is, records-append, length-records}
 use Rattle.rules.specs.Laws.{Callless}
+use Rattle.rules.specs.Service.{Provisos}
 use Rattle.rules.specs.Records.{byteOf, RecordsPromise}
 
 -- an element behind a list
@@ -63,25 +64,25 @@ bytes-are sheet room xs e rest k zero events =
     ∙ getD-behind (records fresh xs) (records (run fresh xs) (e ∷ rest)) (4 * length xs) k (length-records fresh xs))
 
 -- the state after e, by the whole list
-state-after : (before after later : List Event) (e : Event)
-    → next (run fresh (before ++ (after ++ later))) e ≡ run fresh (before ++ (after ++ (later ++ (e ∷ []))))
+state-after : (before after : List Event) (e : Event) → next (run fresh (before ++ after)) e ≡ run fresh (before ++ ((after ++ (e ∷ [])) ++ []))
 unfolding run
-state-after before after later e =
-    sym (run-append (before ++ (after ++ later)) (e ∷ []) fresh)
-    ∙ ap (run fresh) (append-assoc before (after ++ later) (e ∷ []) ∙ ap (λ (l : List Event). before ++ l) (append-assoc after later (e ∷ [])))
+state-after before after e =
+    sym (run-append (before ++ after) (e ∷ []) fresh)
+    ∙ ap (run fresh) (append-assoc before after (e ∷ []) ∙ ap (λ (l : List Event). before ++ l) (sym (append-nil (after ++ (e ∷ [])))))
 
 -- THE PROMISE IN THE RECORDS
 pub records-promise : RecordsPromise
 unfolding outcome
-records-promise sheet room before after later e rest r zero events p =
-    let xs = before ++ (after ++ later) in
+records-promise sheet room before after e rest r zero events p =
+    let xs = before ++ after in
     let now = next (run fresh xs) e in
     let bytes = record-is (refusal (run fresh xs) e) now in
-    let same = state-after before after later e in
-    let plain = callless-front before (after ++ later) (callless-front xs (e ∷ rest) (subst Callless events (no-calls sheet))) in
+    let same = state-after before after e in
+    let plain = callless-front before after (callless-front xs (e ∷ rest) (subst Callless events (no-calls sheet))) in
     let set = untouched fresh (standard .is-fresh) before plain in
     let start : bucketOf (run fresh before .buckets) r ≡ startBucket = rw (set .0) (start-bucket r) in
-    let served = promise-at-start fresh (standard .is-fresh) before after (later ++ (e ∷ [])) r (reversion (run fresh before .settings)) (set .1) start (delays (delay (run fresh before .settings))) p in
+    let met = subst (Provisos r (run fresh before)) (sym (append-nil (after ++ (e ∷ [])))) p in
+    let served = promise-at-start fresh (standard .is-fresh) before (after ++ (e ∷ [])) [] r (reversion (run fresh before .settings)) (set .1) start (delays (delay (run fresh before .settings))) met in
     let state = bytes-are sheet room xs e rest 1 zero events ∙ ap (λ (l : List ℕ). getD (l ++ records now rest) 1 0) bytes in
     let status = bytes-are sheet room xs e rest 3 zero events ∙ ap (λ (l : List ℕ). getD (l ++ records now rest) 3 0) bytes in
     record {

@@ -21,7 +21,7 @@ use Rattle.rules.specs.Comparison.{EndsByCommand3}
 use Rattle.rules.proofs.Tests.{if-case, clash}
 use Rattle.rules.proofs.Blocks.{sampled-ready}
 use Rattle.rules.proofs.Invariants.{invariants}
-use Rattle.rules.proofs.Promise.{run-append}
+use Rattle.rules.proofs.Service.{run-append}
 use Rattle.rules.proofs.Commands.{Allowed, allowed}
 
 -- step 5 leaves it standing

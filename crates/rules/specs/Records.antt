@@ -24,19 +24,19 @@ shownSelected records i = byteOf records i 1 % 16
 abbrev pub shownReady : List ℕ → ℕ → Bool
 shownReady records i = bit (byteOf records i 3) 2
 
--- what is promised of record i, where s is the rules' state at the moment and `after`, or more events, have come since
-pub record RecordServed (r : ℕ) (s : State) (after : List Event) (records : List ℕ) (i : ℕ) : Type 0 where
-  pub selected-is : 860 + reversion (s .settings) ≤ acceptedTicks s after → shownSelected records i ≡ r
-  pub ready-is : 6_379 + reversion (s .settings) ≤ acceptedTicks s after → shownReady records i ≡ true
+-- what is promised of record i, where s is the rules' state at the moment and `since` are the events since then, up to and with that of the record
+pub record RecordServed (r : ℕ) (s : State) (since : List Event) (records : List ℕ) (i : ℕ) : Type 0 where
+  pub selected-is : 860 + reversion (s .settings) ≤ acceptedTicks s since → shownSelected records i ≡ r
+  pub ready-is : 6_379 + reversion (s .settings) ≤ acceptedTicks s since → shownReady records i ≡ true
 
--- THE PROMISE IN THE RECORDS. Take every sheet that runs; its settings and events are `before`, `after`, `later`, an event e and the rest, with the moment
--- after `before`. For every reference r for which the provisos hold up to e: if 860 + n accepted ticks stand in `after`, the record of e shows r as selected;
--- if 6,379 + n do, it shows Ready too. The fresh unit is the standard one, on which every sheet runs, the sets are as they start, and there is no window,
--- since a sheet holds no call.
+-- THE PROMISE IN THE RECORDS. Take every sheet that runs; its settings and events are `before`, `after`, an event e and the rest, with the moment after
+-- `before`. For every reference r for which the provisos hold from the moment up to and with e: if 860 + n accepted ticks have come by then, e among them, the
+-- record of e shows r as selected; if 6,379 + n have, it shows Ready too. The fresh unit is the standard one, on which every sheet runs, the sets are as they
+-- start, and there is no window, since a sheet holds no call.
 abbrev pub RecordsPromise : Type 0
 RecordsPromise =
-    (sheet : List ℕ) (room : ℕ) (before after later : List Event) (e : Event) (rest : List Event) (r : ℕ)
+    (sheet : List ℕ) (room : ℕ) (before after : List Event) (e : Event) (rest : List Event) (r : ℕ)
     → check sheet room ≡ 0
-    → sheetEvents sheet ≡ (before ++ (after ++ later)) ++ (e ∷ rest)
-    → Provisos r (run fresh before) (after ++ (later ++ (e ∷ [])))
-    → RecordServed r (run fresh before) after (front sheet room) (length (before ++ (after ++ later)))
+    → sheetEvents sheet ≡ (before ++ after) ++ (e ∷ rest)
+    → Provisos r (run fresh before) (after ++ (e ∷ []))
+    → RecordServed r (run fresh before) (after ++ (e ∷ [])) (front sheet room) (length (before ++ after))
