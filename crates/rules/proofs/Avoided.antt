@@ -1,8 +1,8 @@
--- Every row of the four tables is computed.
+-- Every row of the table is computed.
 use mathlib.Core.Path.{refl}
-use Rattle.rules.specs.Avoided.{table, loadings, readings, hours, Avoided}
+use Rattle.rules.specs.Avoided.{table, Avoided}
 use Rattle.rules.proofs.Computing.{computing}
 
 pub avoided : Avoided
-unfolding computing table loadings readings hours
-avoided = (refl, (refl, (refl, refl)))
+unfolding computing table
+avoided = refl

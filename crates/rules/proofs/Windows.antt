@@ -1,5 +1,5 @@
 -- A run of blocked ticks (#107): it ends with its window, over the week's end too, so it is no longer than the longest of them.
-use Prim.Native.Nat.{ℕ, zero, suc, _+_, _-_, _≤_, _<_, max}
+use Prim.Native.Nat.{ℕ, zero, suc, _+_, _-_, _≤_, _<_}
 use mathlib.Core.Path.{_≡_, refl}
 use mathlib.Core.Bool.{true, false, not, _&&_, false≢true}
 use mathlib.Core.List.{List, [], _∷_}
@@ -46,7 +46,7 @@ pub blocked-longest : (ws : List Window) (p : ℕ) → blockedFor ws p ≤ longe
 unfolding blockedFor longest
 blocked-longest [] p = omega arith
 blocked-longest (w ∷ ws) p =
-    if-case (λ n. n ≤ max (w .end - w .start) (longest ws)) (inWindow p w) (λ t. omega (arith, inside w p t .0)) (λ t. omega (arith, blocked-longest ws p))
+    if-case (λ n. n ≤ longest (w ∷ ws)) (inWindow p w) (λ t. omega (arith, inside w p t .0)) (λ t. omega (arith, blocked-longest ws p))
 
 -- ---- windows that ascend
 
