@@ -1,4 +1,4 @@
--- The rows' new numbers, place by place, are those of the rules.
+-- The rows' new numbers, lane by lane, are those of the rules.
 use Prim.Native.Nat.{ℕ, zero, suc, _+_, _-_, _*_, _/_, _%_, _^_, _≤_, _<_, max}
 use mathlib.Core.Path.{_≡_, refl, _∙_}
 use mathlib.Core.Logic.{_⊎_, inl, inr}
@@ -21,7 +21,7 @@ use Rattle.buckets.specs.declared.Numbers.{Numbers}
 use Rattle.buckets.proofs.Sets.{set-at}
 use Rattle.inputs.specs.Bridge.{isSet, inputAt, inputsOf}
 use Rattle.inputs.specs.declared.Monitors.{Monitors}
-use Rattle.monitor.specs.Rows.{weight, decayNumber, activeAfter}
+use Rattle.monitor.specs.Rows.{weight, decayNumber, activityNumber}
 
 -- ---- an alarm that is a number
 
@@ -37,9 +37,9 @@ unfolding bit
 weight-bit mask k = weighed (mask / 2 ^ k % 2) (2 ^ (k + 8)) (mod-lt (mask / 2 ^ k) (omega arith)) (one-le-pow (k + 8) 2 (omega arith))
 
 -- the alarm is read out of the two choices
-active-alarm : (high low level active : ℕ) → isSet (activeAfter high low level active) ≡ alarmAfter high low level (isSet active)
-unfolding activeAfter alarmAfter
-active-alarm high low level active = if-map-2 isSet (leb high level) (leb level low) 1 0 active refl refl
+activity-alarm : (high low level activity : ℕ) → isSet (activityNumber high low level activity) ≡ alarmAfter high low level (isSet activity)
+unfolding activityNumber alarmAfter
+activity-alarm high low level activity = if-map-2 isSet (leb high level) (leb level low) 1 0 activity refl refl
 
 -- ---- the decay count
 
@@ -62,7 +62,7 @@ decay-rule : (last mask k decay : ℕ) → decayNumber last (weight mask k) deca
 decay-rule last mask k decay =
     decay-by last (weight mask k) decay (weight-high (mask / 2 ^ k % 2) (2 ^ (k + 8)) (mod-lt (mask / 2 ^ k) (omega arith)) (pow-mono {i = 8} {j = k + 8} (omega arith)))
 
--- ---- the new numbers at a place
+-- ---- the new numbers in a lane
 
 module _ (n : Numbers) (mask : ℕ) (m : Monitors) where
   abbrev levelAt : ℕ → ℕ
@@ -71,39 +71,38 @@ module _ (n : Numbers) (mask : ℕ) (m : Monitors) where
   abbrev decayAt : ℕ → ℕ
   decayAt k = decayNumber (getD (n .lasts) k 0) (weight mask k) (getD (m .decay) k 0)
 
-  abbrev activeAt : ℕ → ℕ
-  activeAt k = activeAfter (getD (n .highs) k 0) (getD (n .lows) k 0) (levelAt k) (getD (m .active) k 0)
+  abbrev activityAt : ℕ → ℕ
+  activityAt k = activityNumber (getD (n .highs) k 0) (getD (n .lows) k 0) (levelAt k) (getD (m .activity) k 0)
 
   abbrev remainderAt : ℕ → ℕ
   remainderAt k = getD (m .remainder) k 0 - 1
 
   abbrev soakAt : ℕ → ℕ
-  soakAt k = soakAfter (good (isSet (activeAt k)) (isSet (getD (m .frequency) k 0)) (remainderAt k)) (getD (m .soak) k 0)
+  soakAt k = soakAfter (good (isSet (activityAt k)) (isSet (getD (m .frequency) k 0)) (remainderAt k)) (getD (m .soak) k 0)
 
   abbrev after : Monitors
   after =
       record {
         level = eight levelAt;
         decay = eight decayAt;
-        active = eight activeAt;
+        activity = eight activityAt;
         frequency = m .frequency;
         remainder = eight remainderAt;
         soak = eight soakAt;
-        buckets = m .buckets;
       }
 
-  -- the input of the new numbers at a place is the rule's
-  place-after : (k : ℕ)
+  -- the input of the new numbers in a lane is the rule's
+  lane-after : (k : ℕ)
       → _≡_ {A = Input}
       (record {
-        activity = record { level = levelAt k; decay = decayAt k; alarm = isSet (activeAt k) };
+        activity = record { level = levelAt k; decay = decayAt k; alarm = isSet (activityAt k) };
         frequency = isSet (getD (m .frequency) k 0);
         remainder = remainderAt k;
         soak = soakAt k;
       })
       (monitored (bucketAt (n .sizes) (n .highs) (n .lows) (n .lasts) k) (bit mask k) (inputAt m k))
   unfolding activityAfter monitored
-  place-after k =
+  lane-after k =
       let bad = weight-bit mask k in
       let size = getD (n .sizes) k 0 in
       let high = getD (n .highs) k 0 in
@@ -112,7 +111,7 @@ module _ (n : Numbers) (mask : ℕ) (m : Monitors) where
       let ticks = ticksOf last in
       let level : levelAt k ≡ levelAfter size ticks (bit mask k) (getD (m .level) k 0) (getD (m .decay) k 0) =
       λ i. levelAfter size ticks (bad i) (getD (m .level) k 0) (getD (m .decay) k 0) in
-      let alarm = active-alarm high low (levelAt k) (getD (m .active) k 0) ∙ (λ i. alarmAfter high low (level i) (isSet (getD (m .active) k 0))) in
+      let alarm = activity-alarm high low (levelAt k) (getD (m .activity) k 0) ∙ (λ i. alarmAfter high low (level i) (isSet (getD (m .activity) k 0))) in
       let decay = decay-rule last mask k (getD (m .decay) k 0) ∙ (λ i. decayAfter ticks (bad i) (getD (m .decay) k 0)) in
       let frequency = isSet (getD (m .frequency) k 0) in
       λ i. record {
@@ -124,7 +123,7 @@ module _ (n : Numbers) (mask : ℕ) (m : Monitors) where
 
   pub rows-after : inputsOf after ≡ Tick.watched (λ i. bucketAt (n .sizes) (n .highs) (n .lows) (n .lasts) (i - 1)) mask (inputsOf m)
   unfolding inputsOf Tick.watched eachFrom
-  rows-after i = eight (λ k. place-after k i)
+  rows-after i = eight (λ k. lane-after k i)
 
 -- ---- the numbers of each input's set are its bucket
 

@@ -13,5 +13,5 @@ unfoldable pub decayNumber : ℕ → ℕ → ℕ → ℕ
 decayNumber last w decay = if ltb (max w decay) (last % 256) then decay + 1 else 0
 
 -- the activity alarm's number after a tick: the rule `alarmAfter` reads it
-unfoldable pub activityAfter : ℕ → ℕ → ℕ → ℕ → ℕ
-activityAfter setLevel clearLevel level activity = if leb setLevel level then 1 else (if leb level clearLevel then 0 else activity)
+unfoldable pub activityNumber : ℕ → ℕ → ℕ → ℕ → ℕ
+activityNumber setLevel clearLevel level activity = if leb setLevel level then 1 else (if leb level clearLevel then 0 else activity)

@@ -8,7 +8,7 @@ ghost use Rattle.rules.specs.Monitors.{levelAfter, good, soakAfter};
 ghost use Rattle.rules.specs.Tick as Tick;
 ghost use Rattle.buckets.specs.Bridge.{eight, ticksOf, bucketAt};
 ghost use Rattle.inputs.specs.Bridge.{isSet, inputsOf, entering, leaving};
-ghost use Rattle.monitor.specs.Rows.{weight, decayNumber, activityAfter};
+ghost use Rattle.monitor.specs.Rows.{weight, decayNumber, activityNumber};
 use arith::both;
 use arith::down;
 use arith::either;
@@ -48,7 +48,7 @@ fn decay_of(last: u16, weight: u16, decay: u16) -> u16
 
 // The rule `alarmAfter`, as a number: 1 where it is set anew.
 fn activity_of(high: u16, low: u16, level: u16, activity: u16) -> u16
-    ensures { λ r. ⌜ r ≡ activityAfter high low level activity ⌝ }
+    ensures { λ r. ⌜ r ≡ activityNumber high low level activity ⌝ }
 {
     either(high <= level, 1, either(level <= low, 0, activity))
 }
@@ -121,7 +121,7 @@ fn decay_row(t: Row, b: Row, d: Row) -> Row
 }
 
 fn activity_row(h: Row, w: Row, l: Row, a: Row) -> Row
-    ensures { λ r. ⌜ r ≡ eight (λ k. activityAfter (getD h k 0) (getD w k 0) (getD l k 0) (getD a k 0)) ⌝ }
+    ensures { λ r. ⌜ r ≡ eight (λ k. activityNumber (getD h k 0) (getD w k 0) (getD l k 0) (getD a k 0)) ⌝ }
 {
     [
         activity_of(h[0], w[0], l[0], a[0]),
