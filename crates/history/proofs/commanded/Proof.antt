@@ -3,7 +3,7 @@ use borrow.Author.Tests.{eq-eqb, ne-eqb}
 use borrow.Author.Needs.{needs}
 use denote.Ref.{now}
 use Rattle.rules.specs.History.{withBlocks, backedUp, replaced, withCommand, commanded}
-use Rattle.history.specs.Bridge.{keptOf}
+use Rattle.history.specs.Bridge.{firstSums}
 use Rattle.history.proofs.commanded.Statement.{statement}
 use Rattle.history.proofs.commanded.Tie as tie
 
@@ -20,7 +20,7 @@ returns-2 c =
     (c .replaced .ensures (now (a .sums)) (now (a .building)) (now (a .backup)) _ (now (a .backup)))
 
 returns-3 : tie.Need-returns-3
-unfolding commanded withCommand replaced withBlocks keptOf
+unfolding commanded withCommand replaced withBlocks firstSums
 returns-3 c =
     let b = c .before .before in
     let a = b .before .before .before .args in

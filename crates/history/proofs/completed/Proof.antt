@@ -21,8 +21,8 @@ use Rattle.history.proofs.completed.Statement.{statement}
 use Rattle.history.proofs.completed.Tie as tie
 
 -- the history before, with any backup
-abbrev before : tie.After-places → List ℤ → History
-before c backup = let a = c .before .before .args in historyOf (a .t) (now (a .sums)) (now (a .building)) backup
+abbrev before : tie.Start → List ℤ → History
+before c backup = let a = c .args in historyOf (a .t) (now (a .sums)) (now (a .building)) backup
 
 -- the history after its open block empties, with other building blocks
 refilled-with : (l : List ℤ) (g h : History) → g ≡ openEmptied h
@@ -31,27 +31,27 @@ unfolding openEmptied withBlocks
 refilled-with l g h e = ap (λ (g : History). refilled (g .kept) (g .builds) l (g .openSum) (g .openCount) g) e
 
 -- the sums with the new one
-joined : (c : tie.After-places) (old new : List ℤ) (count more : ℕ)
-    → let x = c .before .before .args .sum in
+joined : (c : tie.Start) (old new : List ℤ) (count more : ℕ)
+    → let x = c .args .sum in
     new ≡ pushed (toZ w64 (ofZ w64 x)) old → more ≡ min 64 (count + 1) → keptOf new more ≡ take 64 (saturated x ∷ keptOf old count)
 joined c old new count more e m =
-    let x = c .before .before .args .sum in
+    let x = c .args .sum in
     ap (λ (l : List ℤ). keptOf l more) e ∙ kept-push (toZ w64 (ofZ w64 x)) old count more m
-    ∙ ap (λ (z : ℤ). take 64 (saturated z ∷ keptOf old count)) (toZ-ofZ (c .before .before .fits .sum))
+    ∙ ap (λ (z : ℤ). take 64 (saturated z ∷ keptOf old count)) (toZ-ofZ (c .fits .sum))
 
 -- a history builds, and how many blocks it has with the new one
-some-builds : (c : tie.Else1) → not (eqb (c .before .before .before .before .args .t .builds) 0) ≡ true
-some-builds c = ap not (ne-eqb (c .before .before .before .before .args .t .builds) 0 (c .if1 .left))
+some-builds : (c : tie.Else1) → not (eqb (c .before .before .args .t .builds) 0) ≡ true
+some-builds c = ap not (ne-eqb (c .before .before .args .t .builds) 0 (c .if1 .left))
 
-built-length : (c : tie.After-places)
-    → let a = c .before .before .args in
+built-length : (c : tie.Start)
+    → let a = c .args in
     length (take 64 (saturated (a .sum) ∷ keptOf (now (a .building)) (a .t .built))) ≡ min 64 (a .t .built + 1)
 built-length c =
-    let a = c .before .before .args in
+    let a = c .args in
     omega (
       arith,
       length-take 64 (saturated (a .sum) ∷ keptOf (now (a .building)) (a .t .built)),
-      kept-length (now (a .building)) (a .t .built) (c .places .ensures),
+      kept-length (now (a .building)) (a .t .built),
     )
 
 returns : tie.Need-returns
@@ -59,7 +59,7 @@ unfolding replaced
 returns c backup =
     let tested = c .before .before .before .before in
     let p = tested .before .before in
-    let a = p .before .before .args in
+    let a = p .args in
     let h = before p backup in
     let idle : not (eqb (a .t .builds) 0) ≡ false = ap (λ (n : ℕ). not (eqb n 0)) (tested .if1 .taken) in
     let more = joined p (now (a .sums)) _ (a .t .count) (c .before .one-more .result) (c .before .before .push .ensures) (c .before .one-more .ensures) in
@@ -71,7 +71,7 @@ returns-2 c backup =
     let pushing = c .before .before .before .before in
     let tested = pushing .before .before in
     let p = tested .before .before in
-    let a = p .before .before .args in
+    let a = p .args in
     let h = before p backup in
     let more = joined p (now (a .building)) _ (a .t .built) (a .t .built + 1) (pushing .push2 .ensures) (omega arith) in
     refilled-with _ _ h (c .before .open-emptied .ensures (now (a .sums)) (now (a .building)) backup)
@@ -84,7 +84,7 @@ returns-3 c backup =
     let pushing = c .before .before .before .before .before in
     let tested = pushing .before .before in
     let p = tested .before .before in
-    let a = p .before .before .args in
+    let a = p .args in
     let h = before p backup in
     let whole = joined p (now (a .building)) _ (a .t .built) (c .before .one-more2 .result) (pushing .push2 .ensures) (c .before .one-more2 .ensures) in
     ap (λ (g : History). refilled (g .kept) false (g .building) (g .openSum) (g .openCount) g) (c .replaced2 .ensures (now (a .sums)) (now (a .building)) _ _ backup)
@@ -95,7 +95,6 @@ pub completed-spec : {M : Type 1} → statement M
 completed-spec =
     tie.close
     (tie.spec
-    (search needs)
     (search needs)
     (search needs)
     (search needs)

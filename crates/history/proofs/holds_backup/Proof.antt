@@ -4,7 +4,7 @@ use Rattle.history.proofs.holds_backup.Statement.{statement}
 use Rattle.history.proofs.holds_backup.Tie as tie
 
 returns : tie.Need-returns
-returns c sums building backup h = held-kept backup (c .before .args .t .backed) h
+returns c sums building backup = held-kept backup (c .before .args .t .backed)
 
 pub holds-backup-spec : {M : Type 1} → statement M
 holds-backup-spec = tie.close (tie.spec returns)

@@ -6,7 +6,7 @@ use Rattle.history.proofs.is_ready.Tie as tie
 
 returns : tie.Need-returns
 unfolding ready
-returns c sums building backup h = ready-kept sums (c .before .args .t .count) h
+returns c sums building backup = ready-kept sums (c .before .args .t .count)
 
 pub is-ready-spec : {M : Type 1} → statement M
 is-ready-spec = tie.close (tie.spec returns)

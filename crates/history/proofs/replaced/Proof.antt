@@ -3,12 +3,12 @@ use mathlib.Core.Path.{ap}
 use mathlib.Core.List.{[]}
 use borrow.Author.Needs.{needs}
 use Rattle.rules.specs.History.{History, refilled, withBlocks, openEmptied, replaced}
-use Rattle.history.specs.Bridge.{keptOf}
+use Rattle.history.specs.Bridge.{firstSums, keptOf}
 use Rattle.history.proofs.replaced.Statement.{statement}
 use Rattle.history.proofs.replaced.Tie as tie
 
 returns : tie.Need-returns
-unfolding replaced openEmptied withBlocks keptOf
+unfolding replaced openEmptied withBlocks firstSums
 returns c old was sums building backup =
     ap (λ (h : History). refilled (keptOf sums (c .before .args .count)) (h .builds) [] (h .openSum) (h .openCount) h)
     (c .open-emptied .ensures old was backup)
