@@ -11,14 +11,14 @@ use mir.Val.{SFits, toZ, ofZ}
 use mir.Facts.{toZ-ofZ}
 use borrow.Author.Needs.{needs}
 use Rattle.rules.specs.History.{saturated, sumOf}
-use Rattle.history.specs.Bridge.{keptOf}
+use Rattle.history.specs.Bridge.{firstSums}
 use Rattle.history.proofs.Sums.{stored, small-fits}
-use Rattle.history.proofs.Kept.{kept-stop, sum-more, sum-le}
+use Rattle.history.proofs.Kept.{sum-more, sum-le}
 use Rattle.value.proofs.total.Statement.{statement}
 use Rattle.value.proofs.total.Tie as tie
 
 abbrev Inv-loop : tie.InvT-loop
-Inv-loop count sums n s₀ i₀ s i = (i ≤ n) × (toZ w64 s ≡ sumOf (keptOf sums i))
+Inv-loop count sums n s₀ i₀ s i = (i ≤ n) × (toZ w64 s ≡ sumOf (firstSums i sums))
 
 abbrev μ-loop : tie.MeasureT-loop
 μ-loop count sums n s₀ i₀ s i = n - i
@@ -30,7 +30,7 @@ cast-n : tie.Need-cast-n Inv-loop μ-loop
 cast-n c = search needs
 
 loop-holds : tie.Need-loop-holds Inv-loop μ-loop
-unfolding sumOf keptOf
+unfolding sumOf firstSums
 loop-holds c = (omega arith, refl)
 
 mul-within : tie.Need-mul-within Inv-loop μ-loop
@@ -50,14 +50,14 @@ module _ (c : tie.After-within Inv-loop μ-loop) where
   abbrev i : ℕ
   i = c .before .before .before .loop .i
 
-  added : toZ w64 (c .before .before .before .loop .s) +ℤ toZ w64 (ofZ w64 (c .within .result)) ≡ sumOf (keptOf sums (i + 1))
+  added : toZ w64 (c .before .before .before .loop .s) +ℤ toZ w64 (ofZ w64 (c .within .result)) ≡ sumOf (firstSums (i + 1) sums)
   added =
       (λ j. c .before .before .before .loop .inv .1 j
       +ℤ (stored (c .within .result) (c .within .ok) ∙ c .within .ensures ∙ ap saturated (stored (getD sums i (pos 0)) (c .before .within-arg .given))) j)
-      ∙ sum-more sums i (pos 0) (search needs) ∙ ap (λ (n : ℕ). sumOf (keptOf sums n)) (sym (add-one i))
+      ∙ sum-more sums i ∙ ap (λ (n : ℕ). sumOf (firstSums n sums)) (sym (add-one i))
 
-  sum-small : SFits w64 (sumOf (keptOf sums (i + 1)))
-  sum-small = small-fits (sumOf (keptOf sums (i + 1))) (omega (arith, sum-le sums (i + 1)))
+  sum-small : SFits w64 (sumOf (firstSums (i + 1) sums))
+  sum-small = small-fits (sumOf (firstSums (i + 1) sums)) (omega (arith, sum-le sums (i + 1)))
 
 add-s : tie.Need-add-s Inv-loop μ-loop
 add-s c = rw (added c) (sum-small c)
@@ -75,7 +75,7 @@ returns : tie.Need-returns Inv-loop μ-loop
 returns c =
     let s = c .before .before .before in
     let e : c .before .loop .i ≡ min (s .args .count) 64 = omega arith in
-    c .before .loop .inv .1 ∙ ap (λ (n : ℕ). sumOf (keptOf (s .args .t1) n)) e ∙ ap sumOf (kept-stop (s .args .t1) (s .args .count) (search needs))
+    c .before .loop .inv .1 ∙ ap (λ (n : ℕ). sumOf (firstSums n (s .args .t1))) e
 
 pub total-spec : {M : Type 1} → statement M
 total-spec =
