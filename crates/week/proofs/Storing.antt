@@ -1,6 +1,6 @@
 -- What is stored of windows that pass the check are those windows.
 use Prim.Native.Nat.{ℕ, zero, suc, _+_, _*_, _≤_, _<_}
-use mathlib.Core.Path.{_≡_, refl, _∙_}
+use mathlib.Core.Path.{_≡_, refl, ap, _∙_}
 use mathlib.Core.Bool.{true, _&&_}
 use mathlib.Core.List.{List, [], _∷_}
 use native.Mathlib.Omega.{arith}
@@ -10,15 +10,27 @@ use borrow.Author.Tests.{leb-true, lt-ltb, le-ltb}
 use Rattle.rules.specs.Words.{if_then_else_}
 use Rattle.rules.specs.Week.{weekTicks, Window, isWindow, ascending, windowsFit, windowAt, windowsFrom, firstWindows}
 use Rattle.rules.proofs.Tests.{and-left, and-right}
-use Rattle.week.specs.Bridge.{standing, windowsOf}
+use Rattle.week.specs.Bridge.{standing, windowsOf, listed, keptAt, keptNumbers}
 use Rattle.week.proofs.Windows.{length-from}
 
--- a number that belongs to one of the first n / 2 windows, or 0
-abbrev pub keptAt : ℕ → ℕ → List ℕ → ℕ
-keptAt n j l = if ltb j n then getD l j 0 else 0
+pub length-listed : (n : ℕ) (f : ℕ → ℕ) → length (listed n f) ≡ n
+unfolding listed
+length-listed zero f = refl
+length-listed (suc n) f = ap suc (length-listed n (λ k. f (suc k)))
 
--- so are all sixteen
-module _ (count : ℕ) (l r : List ℕ) (each : (j : ℕ) → j < 16 → getD r j 0 ≡ keptAt (2 * count) j l) where
+pub listed-at : (n : ℕ) (f : ℕ → ℕ) (d j : ℕ) → j < n → getD (listed n f) j d ≡ f j
+unfolding listed
+listed-at zero f d j h = absurd (omega arith)
+listed-at (suc n) f d zero h = refl
+listed-at (suc n) f d (suc j) h = listed-at n (λ k. f (suc k)) d j (omega arith)
+
+module _ (count : ℕ) (l : List ℕ) where
+  abbrev r : List ℕ
+  r = keptNumbers count l
+
+  each : (j : ℕ) → j < 16 → getD r j 0 ≡ keptAt (2 * count) l j
+  each j h = listed-at 16 (keptAt (2 * count) l) 0 j h
+
   kept-here : (k : ℕ) → k < 8 → k < count → windowAt k r ≡ windowAt k l
   kept-here k h m =
       let start : getD r (2 * k) 0 ≡ getD l (2 * k) 0 = each (2 * k) (omega arith) ∙ rw (lt-ltb (2 * k) (2 * count) (omega arith)) refl in
@@ -52,8 +64,8 @@ module _ (count : ℕ) (l r : List ℕ) (each : (j : ℕ) → j < 16 → getD r 
       (and-right (ltb (getD l (2 * k) 0) (getD l (2 * k + 1) 0) && leb (getD l (2 * k + 1) 0) weekTicks) _ later) in
       (λ i. if ltb (here i .start) (here i .end) then here i ∷ rest i else rest i) ∙ rw before refl
 
-  pub all-kept : windowsFit (firstWindows count l) ≡ true → windowsOf r ≡ firstWindows count l
+  pub stored-windows : windowsFit (firstWindows count l) ≡ true → windowsOf (keptNumbers count l) ≡ firstWindows count l
   unfolding windowsFit
-  all-kept ok =
+  stored-windows ok =
       let few : count ≤ 8 = omega (arith, leb-true (length (firstWindows count l)) 8 (and-left (leb (length (firstWindows count l)) 8) _ ok), length-from count 0 l) in
       windows-kept 8 count 0 0 refl (omega arith) few (and-left (ascending 0 (firstWindows count l)) _ (and-right (leb (length (firstWindows count l)) 8) _ ok))

@@ -1,5 +1,5 @@
 -- From the stored place and windows to the rules' week.
-use Prim.Native.Nat.{ℕ, _*_}
+use Prim.Native.Nat.{ℕ, zero, suc, _*_}
 use mathlib.Core.List.{List, [], _∷_}
 use lib.Dec.{ltb}
 use lib.ListN.{getD}
@@ -19,10 +19,17 @@ windowsOf numbers = standing (windowsFrom 8 0 numbers)
 abbrev pub weekOf : ℕ → List ℕ → rules.Week
 weekOf place numbers = record { place = place; windows = windowsOf numbers }
 
+-- ---- what is stored of a call's windows
+
+-- the values of f at 0 to n − 1
+unfoldable pub listed : ℕ → (ℕ → ℕ) → List ℕ
+listed zero f = []
+listed (suc n) f = f 0 ∷ listed n (λ k. f (suc k))
+
+-- the number at place k, if it is one of the first n; else 0
+abbrev pub keptAt : ℕ → List ℕ → ℕ → ℕ
+keptAt n numbers k = if ltb k n then getD numbers k 0 else 0
+
 -- the first `count` windows' numbers, and 0 for each other of the sixteen
-unfoldable pub keptNumbers : ℕ → List ℕ → List ℕ
-keptNumbers count numbers = sixteen (λ k. if ltb k (2 * count) then getD numbers k 0 else 0)
-  where
-    sixteen : (ℕ → ℕ) → List ℕ
-    sixteen f =
-        f 0 ∷ f 1 ∷ f 2 ∷ f 3 ∷ f 4 ∷ f 5 ∷ f 6 ∷ f 7 ∷ f 8 ∷ f 9 ∷ f 10 ∷ f 11 ∷ f 12 ∷ f 13 ∷ f 14 ∷ f 15 ∷ []
+abbrev pub keptNumbers : ℕ → List ℕ → List ℕ
+keptNumbers count numbers = listed 16 (keptAt (2 * count) numbers)
