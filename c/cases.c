@@ -74,7 +74,7 @@ static int32_t value(const struct unit *u)
 
 static int activity_alarm(const struct unit *u, int input)
 {
-    return u->monitors.active[input - 1];
+    return u->monitors.activity[input - 1];
 }
 
 static int frequency_alarm(const struct unit *u, int input)
@@ -126,7 +126,7 @@ static void frequency(void)
     expect("D 25 clears", alarm_after(25, 0), 0);
 }
 
-/* All bytes are compared around the refusal, padding too. */
+/* All bytes are compared around the refusal. */
 static void limits(void)
 {
     struct unit u = unit_fresh();
@@ -217,7 +217,7 @@ static void kept_value(void)
     write_register(&u, 0x42, 2);
     clean_ticks(&u, 1);
     expect("#102 input 2 is selected", selected(&u), 2);
-    expect("#102 a history builds", u.history.tally.builds != 0, 1);
+    expect("#102 a history builds", u.core.tally.builds != 0, 1);
     expect("#102 Ready stands", ready(&u), 1);
     expect("#102 with the value of input 1", value(&u), 7);
     write_register(&u, 0x42, 0);
@@ -225,7 +225,7 @@ static void kept_value(void)
     expect("#102 input 2 is lost: Holdover", state_byte(&u), 0x10);
 }
 
-/* The refusal of an event, of a call or of a table, and that it left every byte as it was, padding too. */
+/* The refusal of an event, of a call or of a table, and that it left every byte as it was. */
 static void expect_refused(const char *what, const struct unit *u, const unsigned char *before, int got, int want)
 {
     expect(what, got, want);
@@ -273,38 +273,43 @@ static void bucket_sets(void)
 }
 
 /* The table of a unit that wakes in automatic control: input 2 is preferred, input 1 revertive. */
-enum { TABLE_BYTES = 27 };
-static const uint8_t buyers_own[TABLE_BYTES] = {
+static const uint8_t buyers_own[UNIT_REGISTERS] = {
     0xf9, 0, 2, 2, 2, 2, 2, 2, /* 0x1c to 0x23 */
     0, 0, 0, 0,                /* 0x24 to 0x27 */
     1, 0, 3, 1, 31, 25,        /* 0x40 to 0x45 */
     0, 0, 0, 0, 0, 0, 0, 0, 0, /* 0x46 to 0x4e */
 };
 
+/* The place of a register in a table. */
+static int table_place(int address)
+{
+    return address < 0x40 ? address - 0x1c : address - 0x40 + 12;
+}
+
 static void refused_tables(void)
 {
-    static const struct { const char *what; int place; uint8_t value; } wrong[] = {
-        {"#105 a command gives 15", 0x26 - 0x1c, 3},
-        {"#105 a nonzero for the read-only 0x27 gives 15", 0x27 - 0x1c, 1},
-        {"#105 a nonzero for the read-only 0x46 gives 15", 12 + 0x46 - 0x40, 255},
-        {"#105 a nonzero for the read-only 0x4e gives 15", 12 + 0x4e - 0x40, 1},
-        {"#105 Free Run above 31 gives 15", 0x24 - 0x1c, 32},
-        {"#105 control above 1 gives 15", 12, 2},
-        {"#105 limits 5 apart give 15", 12 + 0x44 - 0x40, 30},
-        {"#105 a reject limit below the other gives 15", 12 + 0x44 - 0x40, 24},
+    static const struct { const char *what; int address; uint8_t value; } wrong[] = {
+        {"#105 a command gives 15", 0x26, 3},
+        {"#105 a nonzero for the read-only 0x27 gives 15", 0x27, 1},
+        {"#105 a nonzero for the read-only 0x46 gives 15", 0x46, 255},
+        {"#105 a nonzero for the read-only 0x4e gives 15", 0x4e, 1},
+        {"#105 Free Run above 31 gives 15", 0x24, 32},
+        {"#105 control above 1 gives 15", 0x40, 2},
+        {"#105 limits 5 apart give 15", 0x44, 30},
+        {"#105 a reject limit below the other gives 15", 0x44, 24},
     };
     struct unit u = tracking(1);
     unsigned char before[sizeof u];
     memcpy(before, &u, sizeof u);
-    uint8_t table[TABLE_BYTES + 1] = {0};
-    memcpy(table, buyers_own, TABLE_BYTES);
+    uint8_t table[UNIT_REGISTERS + 1] = {0};
+    memcpy(table, buyers_own, UNIT_REGISTERS);
     expect_refused("#105 no byte gives 15", &u, before, unit_load(&u, table, 0), 15);
-    expect_refused("#105 26 bytes give 15", &u, before, unit_load(&u, table, 26), 15);
-    expect_refused("#105 28 bytes give 15", &u, before, unit_load(&u, table, 28), 15);
+    expect_refused("#105 a byte short gives 15", &u, before, unit_load(&u, table, UNIT_REGISTERS - 1), 15);
+    expect_refused("#105 a byte more gives 15", &u, before, unit_load(&u, table, UNIT_REGISTERS + 1), 15);
     for (size_t i = 0; i < sizeof wrong / sizeof *wrong; i++) {
-        memcpy(table, buyers_own, TABLE_BYTES);
-        table[wrong[i].place] = wrong[i].value;
-        expect_refused(wrong[i].what, &u, before, unit_load(&u, table, TABLE_BYTES), 15);
+        memcpy(table, buyers_own, UNIT_REGISTERS);
+        table[table_place(wrong[i].address)] = wrong[i].value;
+        expect_refused(wrong[i].what, &u, before, unit_load(&u, table, UNIT_REGISTERS), 15);
     }
 }
 
@@ -315,7 +320,11 @@ static void fresh_values(void)
     ticks(&u, LOCK_TICKS - 1 + (long)READY_BLOCKS * BLOCK_TICKS, 0, 1, 7);
     expect("#105 a unit with a past: Ready", ready(&u), 1);
     expect("#105 and with another bucket set", unit_set_bucket(&u, 0, 20, 10, 5, 3), 0);
-    expect("#105 a table loads", unit_load(&u, buyers_own, TABLE_BYTES), 0);
+    expect("#105 a table loads", unit_load(&u, buyers_own, UNIT_REGISTERS), 0);
+    struct unit other;
+    memset(&other, 0xff, sizeof other);
+    unit_load(&other, buyers_own, UNIT_REGISTERS);
+    expect("#105 and gives the same bytes, whatever they were before", memcmp(&u, &other, sizeof u), 0);
     expect("#105 Free Run, selected 0", state_byte(&u), 0x00);
     expect("#105 0x1c without its upper bits", unit_read(&u, 0x1c), 9);
     expect("#105 no longer Ready", ready(&u), 0);
@@ -442,13 +451,13 @@ static void refused_weeks(void)
 static void busy_hours(void)
 {
     struct unit u = reverting(0);
-    expect("#107 each tick advances the place", (long)u.week.place, 2 * SOAK_TICKS - 1);
+    expect("#107 each tick advances the place", (long)u.core.place, 2 * SOAK_TICKS - 1);
     expect("#107 two windows with a free tick between are accepted", set_windows(&u, 2, 1000, 1010, 1011, 1020), 0);
-    expect("#107 and leave the place as it is", (long)u.week.place, 2 * SOAK_TICKS - 1);
+    expect("#107 and leave the place as it is", (long)u.core.place, 2 * SOAK_TICKS - 1);
     expect("#107 place 1,000 is accepted", unit_set_week(&u, 1000), 0);
     clean_ticks(&u, 10);
     expect("#107 ten ticks in the window: not selected", selected(&u), 2);
-    expect("#107 the wait is n + 1 = 1", (long)u.choice.wait, 1);
+    expect("#107 the wait is n + 1 = 1", (long)u.core.choice.wait, 1);
     struct unit free_tick = u, other = u, lost = u, made_anew = u, full = u;
     static const uint32_t eight[16] = {1, 2, 3, 4, 5, 6, 7, 8, 9, 10, 11, 12, 13, 14, 15, 16};
     expect("#107 eight windows are accepted", unit_set_windows(&full, 8, eight), 0);
@@ -464,9 +473,10 @@ static void busy_hours(void)
     write_register(&lost, 0x42, 0xfd);
     clean_ticks(&lost, 1);
     expect("#107 a lost reference is left in a window", selected(&lost), 1);
-    expect("#107 a table loads in a window", unit_load(&made_anew, buyers_own, TABLE_BYTES), 0);
-    static const struct unit_week none;
-    expect("#107 and leaves place 0 and no windows", memcmp(&made_anew.week, &none, sizeof none), 0);
+    expect("#107 a table loads in a window", unit_load(&made_anew, buyers_own, UNIT_REGISTERS), 0);
+    static const uint32_t none[16];
+    expect("#107 and leaves place 0", (long)made_anew.core.place, 0);
+    expect("#107 and no windows", memcmp(made_anew.windows, none, sizeof none), 0);
 }
 
 /* A window that ends the week, and the place that follows. */
@@ -476,11 +486,11 @@ static void end_of_the_week(void)
     expect("#107 a window that ends the week is accepted", set_windows(&u, 1, WEEK - 2, WEEK, 0, 0), 0);
     expect("#107 place 4,724,998 is accepted", unit_set_week(&u, WEEK - 2), 0);
     clean_ticks(&u, 2);
-    expect("#107 two ticks: place 0, not selected", 10 * (long)u.week.place + selected(&u), 2);
+    expect("#107 two ticks: place 0, not selected", 10 * (long)u.core.place + selected(&u), 2);
     unit_event(&u, TICK, 0, 0, 125000001);
-    expect("#107 a refused tick leaves the place", (long)u.week.place, 0);
+    expect("#107 a refused tick leaves the place", (long)u.core.place, 0);
     clean_ticks(&u, 1);
-    expect("#107 the next: place 1, selected", 10 * (long)u.week.place + selected(&u), 11);
+    expect("#107 the next: place 1, selected", 10 * (long)u.core.place + selected(&u), 11);
 }
 
 /* The longest wait, in a window, and windows taken away. */
@@ -490,7 +500,7 @@ static void longest_wait(void)
     unit_set_week(&u, 0);
     set_windows(&u, 1, 0, WEEK - 1, 0, 0);
     ticks(&u, 200000, 0, 1, 0);
-    expect("#107 delay 255, in a window: the wait stops at 119,533", (long)u.choice.wait, 119533);
+    expect("#107 delay 255, in a window: the wait stops at 119,533", (long)u.core.choice.wait, 119533);
     expect("#107 not selected", selected(&u), 2);
     expect("#107 no windows are accepted", set_windows(&u, 0, 7, 7, 7, 7), 0);
     ticks(&u, 1, 0, 1, 0);

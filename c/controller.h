@@ -26,11 +26,14 @@ extern "C" {
 #define CONTROLLER_ALIGN(type) _Alignof(type)
 #endif
 
+/* How many registers there are: 0x1c to 0x27 and 0x40 to 0x4e. */
+#define UNIT_REGISTERS 27
+
 /* The monitors, a row for each number: place i - 1 is input i. An alarm is 0 or 1. */
 struct unit_monitors {
     uint16_t level[8];     /* activity bucket: its level */
     uint16_t decay[8];     /* activity bucket: its decay count */
-    uint16_t active[8];    /* activity alarm */
+    uint16_t activity[8];  /* activity alarm */
     uint16_t frequency[8]; /* frequency alarm */
     uint16_t remainder[8]; /* lock alarm: ticks that remain */
     uint16_t soak[8];      /* good ticks, 79 at most */
@@ -62,64 +65,60 @@ struct unit_tally {
     uint8_t command; /* the last accepted command */
 };
 
-/* The history: the blocks in use, of which Ready, the value and command 1 speak, and beside them, while one builds, the history that is to replace them.
- * What lies after the sums that are counted means nothing.
- * Sums are written only where a block completes and by commands. A complete block goes to the front of the history that fills: the building one, or the sums
- * in use while nothing builds; the 43rd building block copies building to sums. Command 1 copies sums to backup, 2 backup to sums; 2 and 3 set building to 0.
- * A switch that starts building changes the tally alone. */
-struct unit_history {
-    struct unit_tally tally;
-    int64_t sums[64];     /* the first tally.count: the block sums in use, newest first */
-    int64_t building[64]; /* the first tally.built: the building history's, newest first */
-    int64_t backup[64];   /* the first tally.backed: the backup's */
-};
-
 /* The selection. */
 struct unit_choice {
-    uint64_t wait;    /* reversion wait in ticks */
-    uint8_t selected; /* 0 none, 1 to 8, 9 Free Run as a candidate */
-    uint8_t aim;      /* the best that the wait is for */
+    uint32_t wait;     /* reversion wait in ticks */
+    uint32_t selected; /* 0 none, 1 to 8, 9 Free Run as a candidate */
+    uint32_t awaited;  /* the best that the wait is for */
 };
 
 /* The PLL. */
 struct unit_loop {
-    uint16_t unlock; /* unlock run */
-    uint16_t mode;   /* state, as in 0x48 */
-    uint16_t lock;   /* lock run */
+    uint32_t unlock; /* unlock run */
+    uint32_t mode;   /* state, as in 0x48 */
+    uint32_t lock;   /* lock run */
 };
 
-/* The week of the busy hours: 4,725,000 ticks. */
-struct unit_week {
-    uint32_t place;       /* the place of the next tick, 0 to 4,724,999 */
-    uint32_t windows[16]; /* start and end of each window in turn, and 0 and 0 where there is none; a pair whose start is not before its end is no window */
-};
-
-/* The whole state. */
-struct unit {
-    struct unit_monitors monitors;
-    struct unit_buckets buckets;
-    struct unit_history history;
+/* The numbers of the unit as a whole. */
+struct unit_core {
+    struct unit_tally tally;
     struct unit_choice choice;
     uint32_t holding; /* ticks in Holdover after the event that entered it, 255 hours at most */
-    struct unit_week week;
+    uint32_t place;   /* place in the week of the next tick, 0 to 4,724,999 */
     struct unit_loop pll;
-    uint8_t regs[27]; /* a byte for each register, 0x1c to 0x27 and 0x40 to 0x4e; 0 for 0x26 and those that are read only */
+};
+
+/* The whole state. There is no padding in it: two units with the same fields have the same bytes, and a check sum over a stored unit is stable.
+ *
+ * The history is the blocks in use, of which Ready, the value and command 1 speak, and beside them, while one builds, the history that is to replace them.
+ * What lies after the sums that are counted means nothing.
+ * Sums are written only where a block completes and by commands. A complete block goes to the front of the history that fills: the building one, or the sums
+ * in use while nothing builds; the 43rd building block copies building to sums. Command 1 copies sums to backup, 2 backup to sums; 2 and 3 set building to 0.
+ * A switch that starts building changes the tally alone. */
+struct unit {
+    struct unit_core core;
+    struct unit_monitors monitors;
+    struct unit_buckets buckets;
+    int64_t sums[64];     /* the first core.tally.count: the block sums in use, newest first */
+    int64_t building[64]; /* the first core.tally.built: the building history's, newest first */
+    int64_t backup[64];   /* the first core.tally.backed: the backup's */
+    uint32_t windows[16]; /* start and end of each window in turn, and 0 and 0 where there is none; a pair whose start is not before its end is no window */
+    uint8_t regs[32];     /* a byte for each register in address order, 0 for 0x26 and those that are read only; the five after them are 0 */
 };
 
 CONTROLLER_ASSERT(sizeof(struct unit_monitors) == 96, "size of unit_monitors");
 CONTROLLER_ASSERT(sizeof(struct unit_set) == 4, "size of unit_set");
 CONTROLLER_ASSERT(sizeof(struct unit_buckets) == 32, "size of unit_buckets");
 CONTROLLER_ASSERT(sizeof(struct unit_tally) == 16, "size of unit_tally");
-CONTROLLER_ASSERT(sizeof(struct unit_history) == 1552, "size of unit_history");
-CONTROLLER_ASSERT(sizeof(struct unit_choice) == 16, "size of unit_choice");
-CONTROLLER_ASSERT(sizeof(struct unit_loop) == 6, "size of unit_loop");
-CONTROLLER_ASSERT(sizeof(struct unit_week) == 68, "size of unit_week");
+CONTROLLER_ASSERT(sizeof(struct unit_choice) == 12, "size of unit_choice");
+CONTROLLER_ASSERT(sizeof(struct unit_loop) == 12, "size of unit_loop");
+CONTROLLER_ASSERT(sizeof(struct unit_core) == 48, "size of unit_core");
 CONTROLLER_ASSERT(sizeof(struct unit) == 1808, "size of unit");
 CONTROLLER_ASSERT(CONTROLLER_ALIGN(struct unit) == 8, "alignment of unit");
 
 CONTROLLER_ASSERT(offsetof(struct unit_monitors, level) == 0, "offset of level");
 CONTROLLER_ASSERT(offsetof(struct unit_monitors, decay) == 16, "offset of decay");
-CONTROLLER_ASSERT(offsetof(struct unit_monitors, active) == 32, "offset of active");
+CONTROLLER_ASSERT(offsetof(struct unit_monitors, activity) == 32, "offset of activity");
 CONTROLLER_ASSERT(offsetof(struct unit_monitors, frequency) == 48, "offset of frequency");
 CONTROLLER_ASSERT(offsetof(struct unit_monitors, remainder) == 64, "offset of remainder");
 CONTROLLER_ASSERT(offsetof(struct unit_monitors, soak) == 80, "offset of soak");
@@ -137,26 +136,46 @@ CONTROLLER_ASSERT(offsetof(struct unit_tally, backed) == 12, "offset of backed")
 CONTROLLER_ASSERT(offsetof(struct unit_tally, builds) == 13, "offset of builds");
 CONTROLLER_ASSERT(offsetof(struct unit_tally, last) == 14, "offset of last");
 CONTROLLER_ASSERT(offsetof(struct unit_tally, command) == 15, "offset of command");
-CONTROLLER_ASSERT(offsetof(struct unit_history, tally) == 0, "offset of tally");
-CONTROLLER_ASSERT(offsetof(struct unit_history, sums) == 16, "offset of sums");
-CONTROLLER_ASSERT(offsetof(struct unit_history, building) == 528, "offset of building");
-CONTROLLER_ASSERT(offsetof(struct unit_history, backup) == 1040, "offset of backup");
 CONTROLLER_ASSERT(offsetof(struct unit_choice, wait) == 0, "offset of wait");
-CONTROLLER_ASSERT(offsetof(struct unit_choice, selected) == 8, "offset of selected");
-CONTROLLER_ASSERT(offsetof(struct unit_choice, aim) == 9, "offset of aim");
+CONTROLLER_ASSERT(offsetof(struct unit_choice, selected) == 4, "offset of selected");
+CONTROLLER_ASSERT(offsetof(struct unit_choice, awaited) == 8, "offset of awaited");
 CONTROLLER_ASSERT(offsetof(struct unit_loop, unlock) == 0, "offset of unlock");
-CONTROLLER_ASSERT(offsetof(struct unit_loop, mode) == 2, "offset of mode");
-CONTROLLER_ASSERT(offsetof(struct unit_loop, lock) == 4, "offset of lock");
-CONTROLLER_ASSERT(offsetof(struct unit_week, place) == 0, "offset of place");
-CONTROLLER_ASSERT(offsetof(struct unit_week, windows) == 4, "offset of windows");
-CONTROLLER_ASSERT(offsetof(struct unit, monitors) == 0, "offset of monitors");
-CONTROLLER_ASSERT(offsetof(struct unit, buckets) == 96, "offset of buckets");
-CONTROLLER_ASSERT(offsetof(struct unit, history) == 128, "offset of history");
-CONTROLLER_ASSERT(offsetof(struct unit, choice) == 1680, "offset of choice");
-CONTROLLER_ASSERT(offsetof(struct unit, holding) == 1696, "offset of holding");
-CONTROLLER_ASSERT(offsetof(struct unit, week) == 1700, "offset of week");
-CONTROLLER_ASSERT(offsetof(struct unit, pll) == 1768, "offset of pll");
-CONTROLLER_ASSERT(offsetof(struct unit, regs) == 1774, "offset of regs");
+CONTROLLER_ASSERT(offsetof(struct unit_loop, mode) == 4, "offset of mode");
+CONTROLLER_ASSERT(offsetof(struct unit_loop, lock) == 8, "offset of lock");
+CONTROLLER_ASSERT(offsetof(struct unit_core, tally) == 0, "offset of tally");
+CONTROLLER_ASSERT(offsetof(struct unit_core, choice) == 16, "offset of choice");
+CONTROLLER_ASSERT(offsetof(struct unit_core, holding) == 28, "offset of holding");
+CONTROLLER_ASSERT(offsetof(struct unit_core, place) == 32, "offset of place");
+CONTROLLER_ASSERT(offsetof(struct unit_core, pll) == 36, "offset of pll");
+CONTROLLER_ASSERT(offsetof(struct unit, core) == 0, "offset of core");
+CONTROLLER_ASSERT(offsetof(struct unit, monitors) == 48, "offset of monitors");
+CONTROLLER_ASSERT(offsetof(struct unit, buckets) == 144, "offset of buckets");
+CONTROLLER_ASSERT(offsetof(struct unit, sums) == 176, "offset of sums");
+CONTROLLER_ASSERT(offsetof(struct unit, building) == 688, "offset of building");
+CONTROLLER_ASSERT(offsetof(struct unit, backup) == 1200, "offset of backup");
+CONTROLLER_ASSERT(offsetof(struct unit, windows) == 1712, "offset of windows");
+CONTROLLER_ASSERT(offsetof(struct unit, regs) == 1776, "offset of regs");
+
+/* No padding: the sizes of the fields add up to that of their struct. */
+#define CONTROLLER_FIELD(name, field) sizeof(((struct name *)0)->field)
+CONTROLLER_ASSERT(sizeof(struct unit_monitors) == CONTROLLER_FIELD(unit_monitors, level) + CONTROLLER_FIELD(unit_monitors, decay) +
+                  CONTROLLER_FIELD(unit_monitors, activity) + CONTROLLER_FIELD(unit_monitors, frequency) + CONTROLLER_FIELD(unit_monitors, remainder) +
+                  CONTROLLER_FIELD(unit_monitors, soak), "padding in unit_monitors");
+CONTROLLER_ASSERT(sizeof(struct unit_set) == CONTROLLER_FIELD(unit_set, size) + CONTROLLER_FIELD(unit_set, set_level) +
+                  CONTROLLER_FIELD(unit_set, clear_level) + CONTROLLER_FIELD(unit_set, decay_last), "padding in unit_set");
+CONTROLLER_ASSERT(sizeof(struct unit_buckets) == CONTROLLER_FIELD(unit_buckets, sets) + CONTROLLER_FIELD(unit_buckets, assigned), "padding in unit_buckets");
+CONTROLLER_ASSERT(sizeof(struct unit_tally) == CONTROLLER_FIELD(unit_tally, open) + CONTROLLER_FIELD(unit_tally, filled) + CONTROLLER_FIELD(unit_tally, count) +
+                  CONTROLLER_FIELD(unit_tally, built) + CONTROLLER_FIELD(unit_tally, backed) + CONTROLLER_FIELD(unit_tally, builds) +
+                  CONTROLLER_FIELD(unit_tally, last) + CONTROLLER_FIELD(unit_tally, command), "padding in unit_tally");
+CONTROLLER_ASSERT(sizeof(struct unit_choice) == CONTROLLER_FIELD(unit_choice, wait) + CONTROLLER_FIELD(unit_choice, selected) +
+                  CONTROLLER_FIELD(unit_choice, awaited), "padding in unit_choice");
+CONTROLLER_ASSERT(sizeof(struct unit_loop) == CONTROLLER_FIELD(unit_loop, unlock) + CONTROLLER_FIELD(unit_loop, mode) +
+                  CONTROLLER_FIELD(unit_loop, lock), "padding in unit_loop");
+CONTROLLER_ASSERT(sizeof(struct unit_core) == CONTROLLER_FIELD(unit_core, tally) + CONTROLLER_FIELD(unit_core, choice) + CONTROLLER_FIELD(unit_core, holding) +
+                  CONTROLLER_FIELD(unit_core, place) + CONTROLLER_FIELD(unit_core, pll), "padding in unit_core");
+CONTROLLER_ASSERT(sizeof(struct unit) == CONTROLLER_FIELD(unit, core) + CONTROLLER_FIELD(unit, monitors) + CONTROLLER_FIELD(unit, buckets) +
+                  CONTROLLER_FIELD(unit, sums) + CONTROLLER_FIELD(unit, building) + CONTROLLER_FIELD(unit, backup) + CONTROLLER_FIELD(unit, windows) +
+                  CONTROLLER_FIELD(unit, regs), "padding in unit");
 
 /* The standard fresh unit: document 01's values in its registers. */
 struct unit unit_fresh(void);
@@ -164,11 +183,11 @@ struct unit unit_fresh(void);
 /* Makes the lent unit anew, as a fresh one with the values of the table in its registers: the refusal number, 15 or 0. What the unit held before plays no
  * part: it need not be one that unit_fresh made, but its bytes must have been written.
  *   table: a byte for each register in address order, 0x1c to 0x27 and then 0x40 to 0x4e; 0 for the command 0x26 and for those that are read only
- *   len:   27
+ *   len:   UNIT_REGISTERS
  * Bits 7-4 of 0x1c to 0x23 are dropped. All else is as in any fresh unit, bucket sets, week and windows, history and backup too: it is in Free Run with
  * selected 0, and nothing is left of the unit as it was.
  * Another length, a nonzero where 0 has to be, a value above the register's largest, or reject - qualification under 6 give 15. A refusal leaves every byte of
- * the unit as it was, padding included. Unit and table do not overlap. */
+ * the unit as it was. Unit and table do not overlap. */
 uint8_t unit_load(struct unit *u, const uint8_t *table, size_t len);
 
 /* One event on the lent unit: the refusal number, 0 if it is accepted. The fields are those of an event of a run sheet:
@@ -178,7 +197,7 @@ uint8_t unit_load(struct unit *u, const uint8_t *table, size_t len);
  *   kind 3, write:       a address, b value, word 0
  *   kind 4, measurement: a input 1 to 8, b 0, word offset in 1/64 ppm, -32768 to 32767
  * A measurement of kind 1 means 32 times its byte, and the limits 0x44 and 0x45 are compared as 32 times theirs.
- * Fields that are no event give 12. A refusal leaves every byte of the unit as it was, padding included. */
+ * Fields that are no event give 12. A refusal leaves every byte of the unit as it was. */
 uint8_t unit_event(struct unit *u, uint8_t kind, uint8_t a, uint8_t b, int32_t word);
 
 /* Sets one of the four bucket sets, which start as 8, 6, 4, 1: the refusal number, 14 or 0.
@@ -189,20 +208,19 @@ uint8_t unit_event(struct unit *u, uint8_t kind, uint8_t a, uint8_t b, int32_t w
  *   decay:       0 to 3; the level falls by 1 in 1, 2, 4 or 8 clean ticks
  * Bounds: clear_level < set_level <= size. Numbers out of these bounds, or a set over 3, give 14.
  * Each input that has the set now is put at level size, its alarm set and its decay count 0, also where the numbers are as they were. Its soak, and all else,
- * is for the next tick to change. A refusal leaves every byte of the unit as it was, padding included. */
+ * is for the next tick to change. A refusal leaves every byte of the unit as it was. */
 uint8_t unit_set_bucket(struct unit *u, uint8_t set, uint8_t size, uint8_t set_level, uint8_t clear_level, uint8_t decay);
 
 /* Gives an input one of the four bucket sets; each starts with set 0: the refusal number, 6, 14 or 0.
  *   input: 1 to 8, else 6
  *   set:   0 to 3, else 14; 6 comes first where both are out of bounds
- * The input is put at the set's size, as by unit_set_bucket, also where it had the set before. A refusal leaves every byte of the unit as it was, padding
- * included. */
+ * The input is put at the set's size, as by unit_set_bucket, also where it had the set before. A refusal leaves every byte of the unit as it was. */
 uint8_t unit_assign_bucket(struct unit *u, uint8_t input, uint8_t set);
 
 /* Sets the place in the week, which starts at 0: the refusal number, 16 or 0. The week has 4,725,000 ticks; each accepted tick takes the place that stands,
  * and after its selection the place moves on by 1, from 4,724,999 to 0.
  *   place: of the next accepted tick, 0 to 4,724,999, else 16
- * It may be set at any time, in a window too. A refusal leaves every byte of the unit as it was, padding included. */
+ * It may be set at any time, in a window too. A refusal leaves every byte of the unit as it was. */
 uint8_t unit_set_week(struct unit *u, uint32_t place);
 
 /* Sets the windows of the busy hours, all at once: the refusal number, 16 or 0. A fresh unit has none. At a place in a window no reversion switches; a
@@ -211,8 +229,8 @@ uint8_t unit_set_week(struct unit *u, uint32_t place);
  *   windows: start and end of each of the first count, in ticks from the week's start: a window has the places from its start up to but not including its
  *            end. There must be 16 numbers, all of them written; those after the first count have no effect.
  * A count over 8, a start not before its end, an end over 4,725,000, a start that is not after the end of the window before it, so that no free tick is
- * between, or a first start of 0 with a last end of 4,725,000 give 16. A refusal leaves every byte of the unit as it was, padding included. Unit and windows
- * do not overlap. */
+ * between, or a first start of 0 with a last end of 4,725,000 give 16. A refusal leaves every byte of the unit as it was. Unit and windows do
+ * not overlap. */
 uint8_t unit_set_windows(struct unit *u, uint8_t count, const uint32_t windows[16]);
 
 /* A read of the lent unit: 256 times the refusal, plus the byte. */
