@@ -99,7 +99,7 @@ impl<D: Device> Pair<D> {
         }
     }
 
-    /// Reads the 27 registers of the map.
+    /// Reads the registers of the map.
     pub fn read_map(&mut self) -> Result<(), Mismatch> {
         for address in MAP.into_iter().flatten() {
             self.read(address)?;

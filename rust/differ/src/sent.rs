@@ -4,11 +4,11 @@
 use crate::fields::Fields;
 use crate::table::Table;
 use crate::windows::{plainer_windows, show_windows};
-use model::{BucketSet, Call, Event, BYTES_PER_TABLE};
+use model::{BucketSet, Call, Event, REGISTERS};
 use std::fmt;
 
 /// So many plainer forms there are at most.
-pub const PLAINER_FORMS: usize = 2 + BYTES_PER_TABLE;
+pub const PLAINER_FORMS: usize = 2 + REGISTERS;
 
 #[derive(Clone, Copy, Debug, PartialEq, Eq)]
 pub enum Sent {

@@ -1,6 +1,6 @@
 //! A table of fresh values, as #105 loads it, and tables of other lengths.
 
-use model::{table_addresses, Settings, BYTES_PER_TABLE, STANDARD_TABLE};
+use model::{table_addresses, Settings, REGISTERS, STANDARD_TABLE};
 use std::fmt;
 
 /// The addresses that have 0 in each table that loads: the command, and the
@@ -19,18 +19,18 @@ pub const LARGEST: [(u8, u8); 6] = [
     (0x45, 127),
 ];
 
-/// Small enough to be handed on by value: a table of more bytes than 27 has
-/// these over and over.
+/// Small enough to be handed on by value: a table of more bytes than there are
+/// registers has these over and over.
 #[derive(Clone, Copy, Debug, PartialEq, Eq)]
 pub struct Table {
     pub length: u16,
-    bytes: [u8; BYTES_PER_TABLE],
+    bytes: [u8; REGISTERS],
 }
 
 impl Table {
     /// The fresh values of document 01.
     pub const STANDARD: Table = Table {
-        length: BYTES_PER_TABLE as u16,
+        length: REGISTERS as u16,
         bytes: STANDARD_TABLE,
     };
 

@@ -36,12 +36,12 @@ pub use pages::{pages, pages_of, print, BYTES_PER_PAGE, COLUMNS, LINES_PER_PAGE}
 pub use pll::{Pll, State, LOCK_TICKS, UNLOCK_TICKS};
 pub use reading::TICKS_PER_HOUR;
 pub use refusal::Refusal;
-pub use registers::{Register, Settings};
+pub use registers::{Register, Settings, REGISTERS};
 pub use selection::{wait_limit, Wait, FREE_RUN, NONE};
 pub use sheet::{
     check, printed, records, run, sheet_of, Record, BYTES_PER_COUNT, BYTES_PER_EVENT,
     BYTES_PER_RECORD, BYTES_PER_SETTING, LONGEST_SHEET, MOST_SETTINGS,
 };
-pub use tables::{table_addresses, BYTES_PER_TABLE, STANDARD_TABLE};
+pub use tables::{table_addresses, STANDARD_TABLE};
 pub use unit::{OldUnit, Unit, UnitUnder, SAMPLE_LIMIT};
 pub use week::{windows_can_be, Week, Window, MOST_WINDOWS, TICKS_PER_WEEK, WINDOW_NUMBERS};

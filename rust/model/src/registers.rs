@@ -3,6 +3,9 @@
 
 use crate::refusal::Refusal;
 
+/// "27 bytes, one for each register", document 02's #105.
+pub const REGISTERS: usize = 27;
+
 /// "reject − qualification would be under 6" is refused.
 const LEAST_GAP: u8 = 6;
 

@@ -2,13 +2,10 @@
 //! table gives. Sentences in quotation marks are document 02's, #105.
 
 use crate::refusal::Refusal;
-use crate::registers::{Register, Settings};
-
-/// "27 bytes, one for each register"
-pub const BYTES_PER_TABLE: usize = 27;
+use crate::registers::{Register, Settings, REGISTERS};
 
 /// The column "Fresh" of document 01 as a table.
-pub const STANDARD_TABLE: [u8; BYTES_PER_TABLE] = [
+pub const STANDARD_TABLE: [u8; REGISTERS] = [
     0, 0, 0, 0, 0, 0, 0, 0, // 0x1c to 0x23
     0, 0, 0, 0, // 0x24 to 0x27
     0, 0, 255, 0, 31, 25, // 0x40 to 0x45
@@ -37,7 +34,7 @@ impl Settings {
     /// Reading: values above 15 for 0x1c to 0x23 load, with bits 7-4 dropped,
     /// since Largest is 255 there.
     pub fn of_table(table: &[u8]) -> Result<Settings, Refusal> {
-        if table.len() != BYTES_PER_TABLE {
+        if table.len() != REGISTERS {
             return Err(Refusal::DoesNotLoad);
         }
         let mut settings = Settings::fresh();

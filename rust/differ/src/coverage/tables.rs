@@ -42,6 +42,9 @@ fn repaired(table: &Table, address: u8) -> Table {
     table.with(address, if address == 0x44 { 127 } else { 0 })
 }
 
+/// A byte for each register.
+const ALL: u16 = Table::STANDARD.length;
+
 /// The items, each with its condition.
 pub fn conditions() -> Vec<(String, Condition)> {
     let mut list = family(
@@ -74,13 +77,9 @@ pub fn conditions() -> Vec<(String, Condition)> {
         |m, address| m.not_loaded(|table| repaired(table, address).loads()),
     ));
     list.extend(family(
-        [0, 1, 26, 28, 283, 300],
+        [0, 1, ALL - 1, ALL + 1, 256 + ALL, 300],
         |length| format!("table of {} bytes, else one that loads", length),
-        |m, length| {
-            m.not_loaded(|table| {
-                table.length == length && table.of_length(Table::STANDARD.length).loads()
-            })
-        },
+        |m, length| m.not_loaded(|table| table.length == length && table.of_length(ALL).loads()),
     ));
     list.extend(family(
         State::ALL,

@@ -5,7 +5,8 @@ use crate::table::{Table, FORBIDDEN, LARGEST};
 use shared::random::Random;
 
 /// Lengths of tables that do not load.
-const OTHER_LENGTHS: [u16; 8] = [0, 1, 8, 26, 28, 54, 283, 300];
+const OTHER_LENGTHS: [u16; 8] = [0, 1, 8, ALL - 1, ALL + 1, 2 * ALL, 256 + ALL, 300];
+const ALL: u16 = Table::STANDARD.length;
 
 /// A table that loads: now and then the standard one, most often of a unit that
 /// can lock without a write.

@@ -171,9 +171,13 @@ fn a_call_for_windows_is_made_plainer() {
 /// Of a table no more is left than what the fault is about.
 #[test]
 fn a_table_is_made_plainer() {
+    let standard = Table::STANDARD;
     for (name, table) in [
-        ("2 let stand at 0x40", Table::STANDARD.with(0x40, 2)),
-        ("26 bytes load", Table::STANDARD.of_length(26)),
+        ("2 let stand at 0x40", standard.with(0x40, 2)),
+        (
+            "a byte too few loads",
+            standard.of_length(standard.length - 1),
+        ),
     ] {
         let wrong = Wrong::with(fault(name));
         let difference = difference(wrong.fault, 100, 0).expect(name);

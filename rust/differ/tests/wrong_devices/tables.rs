@@ -9,23 +9,23 @@
 
 use crate::faults::*;
 use differ::table::place;
-use model::{BucketSet, Input, State, Unit, BYTES_PER_TABLE, SOAK_TICKS};
+use model::{BucketSet, Input, State, Unit, REGISTERS, SOAK_TICKS};
 
-/// Takes another table in place of this, if it has 27 bytes.
+/// Takes another table in place of this, if it has a byte for each register.
 fn load_other(unit: &mut Unit, table: &[u8], alter: impl Fn(&mut [u8])) -> u8 {
     let mut other = table.to_vec();
-    if other.len() == BYTES_PER_TABLE {
+    if other.len() == REGISTERS {
         alter(&mut other);
     }
     unit.load(&other)
 }
 
-/// Takes a table of one length as one of 27 bytes, with 0 for the bytes
+/// Takes a table of one length as one of the right length, with 0 for the bytes
 /// that are missing.
 fn of_length<const LENGTH: usize>(unit: &mut Unit, table: &[u8]) -> u8 {
     let mut other = table.to_vec();
     if other.len() == LENGTH {
-        other.resize(BYTES_PER_TABLE, 0);
+        other.resize(REGISTERS, 0);
     }
     unit.load(&other)
 }
@@ -49,7 +49,7 @@ fn one_more<const ADDRESS: u8, const LARGEST: u8>(unit: &mut Unit, table: &[u8])
 fn load_limits(unit: &mut Unit, table: &[u8], apart: impl Fn(i16) -> bool) -> u8 {
     let mut other = table.to_vec();
     let limits = (place(0x44), place(0x45));
-    if other.len() != BYTES_PER_TABLE || other[limits.0] > 127 || other[limits.1] > 127 {
+    if other.len() != REGISTERS || other[limits.0] > 127 || other[limits.1] > 127 {
         return unit.load(table);
     }
     let (reject, qualification) = (other[limits.0], other[limits.1]);
@@ -66,7 +66,7 @@ fn load_limits(unit: &mut Unit, table: &[u8], apart: impl Fn(i16) -> bool) -> u8
 
 /// Refuses a table of which this holds.
 fn refuse_if(unit: &mut Unit, table: &[u8], wrong: fn(&[u8]) -> bool) -> u8 {
-    match table.len() == BYTES_PER_TABLE && wrong(table) {
+    match table.len() == REGISTERS && wrong(table) {
         true => 15,
         false => unit.load(table),
     }
@@ -79,7 +79,8 @@ fn by_writes(unit: &mut Unit, table: &[u8]) -> u8 {
         return 15;
     }
     let mut written = Unit::fresh();
-    for (address, &value) in (0x1c..=0x25).zip(table).chain((0x40..).zip(&table[12..18])) {
+    for address in (0x1c..=0x25).chain(0x40..=0x45) {
+        let value = table[place(address)];
         if written.event(&model::Event::Write { address, value }) != 0 {
             return 15;
         }
@@ -96,8 +97,8 @@ fn answer_with(unit: &mut Unit, table: &[u8], number: u8, holds: fn(&[u8]) -> bo
     }
 }
 
-fn has_27_bytes(table: &[u8]) -> bool {
-    table.len() == BYTES_PER_TABLE
+fn has_all_bytes(table: &[u8]) -> bool {
+    table.len() == REGISTERS
 }
 
 /// Spoils the state where a table does not load.
@@ -126,10 +127,10 @@ pub static FAULTS: &[Fault] = &[
         }
         _ => unit.load(table),
     }),
-    in_load("26 bytes load", of_length::<26>),
-    in_load("28 bytes load", of_length::<28>),
+    in_load("a byte too few loads", of_length::<{ REGISTERS - 1 }>),
+    in_load("a byte too many loads", of_length::<{ REGISTERS + 1 }>),
     in_load("more bytes load", |unit, table| {
-        unit.load(&table[..table.len().min(BYTES_PER_TABLE)])
+        unit.load(&table[..table.len().min(REGISTERS)])
     }),
     in_load("the length taken as a byte", |unit, table| {
         let length = table.len() % 256;
@@ -216,10 +217,10 @@ pub static FAULTS: &[Fault] = &[
         load_other(unit, table, |table| table[..8].rotate_left(1))
     }),
     in_load("the bytes from 0x40 on one later", |unit, table| {
-        load_other(unit, table, |table| table[12..].rotate_right(1))
+        load_other(unit, table, |table| table[place(0x40)..].rotate_right(1))
     }),
     in_load("0x1c and 0x40 the other way round", |unit, table| {
-        load_other(unit, table, |table| table.rotate_left(12))
+        load_other(unit, table, |table| table.rotate_left(place(0x40)))
     }),
     in_load("reject and qualification swapped", |unit, table| {
         load_other(unit, table, |table| table.swap(place(0x44), place(0x45)))
@@ -238,21 +239,21 @@ pub static FAULTS: &[Fault] = &[
     }),
     in_load("3 for a value above the largest", |unit, table| {
         answer_with(unit, table, 3, |table| {
-            has_27_bytes(table) && table[place(0x40)] > 1
+            has_all_bytes(table) && table[place(0x40)] > 1
         })
     }),
     in_load("4 for limits too close", |unit, table| {
         answer_with(unit, table, 4, |table| {
-            has_27_bytes(table) && table[place(0x44)] < table[place(0x45)].saturating_add(6)
+            has_all_bytes(table) && table[place(0x44)] < table[place(0x45)].saturating_add(6)
         })
     }),
     in_load("2 for a read-only register", |unit, table| {
         answer_with(unit, table, 2, |table| {
-            has_27_bytes(table) && table[place(0x46)..].iter().any(|&byte| byte > 0)
+            has_all_bytes(table) && table[place(0x46)..].iter().any(|&byte| byte > 0)
         })
     }),
     in_load("10 for a table that ends early", |unit, table| {
-        answer_with(unit, table, 10, |table| table.len() < BYTES_PER_TABLE)
+        answer_with(unit, table, 10, |table| table.len() < REGISTERS)
     }),
     in_load("a refused table clears the unit", |unit, table| {
         then_if_refused(unit, table, |unit| *unit = Unit::fresh())

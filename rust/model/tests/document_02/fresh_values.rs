@@ -3,7 +3,8 @@
 
 use crate::bench::*;
 use model::{
-    table_addresses, BucketSet, Call, State, Unit, Window, LOCK_ALARM_TICKS, STANDARD_TABLE,
+    table_addresses, BucketSet, Call, State, Unit, Window, LOCK_ALARM_TICKS, REGISTERS,
+    STANDARD_TABLE,
 };
 
 /// The standard table with other values at these addresses.
@@ -94,9 +95,9 @@ fn a_unit_that_wakes_in_automatic_control_locks_without_a_write() {
 #[test]
 fn each_byte_is_its_registers_fresh_value() {
     let addresses: Vec<_> = table_addresses().collect();
-    assert_eq!(addresses.len(), 27);
+    assert_eq!(addresses.len(), REGISTERS);
     assert!(addresses.windows(2).all(|two| two[0] < two[1]));
-    assert_eq!((addresses[0], addresses[26]), (0x1c, 0x4e));
+    assert_eq!((addresses[0], addresses[REGISTERS - 1]), (0x1c, 0x4e));
     let values = [
         (0x1c, 1),
         (0x1d, 2),
@@ -195,7 +196,19 @@ fn read_only_registers_and_the_command_have_0() {
 #[test]
 fn other_lengths_do_not_load() {
     let bytes = table(&[]).repeat(12);
-    let lengths = [0, 1, 8, 12, 26, 28, 29, 54, 256 + 27, 300];
+    let all = REGISTERS;
+    let lengths = [
+        0,
+        1,
+        8,
+        12,
+        all - 1,
+        all + 1,
+        all + 2,
+        2 * all,
+        256 + all,
+        300,
+    ];
     refuse_tables(lengths.map(|length| bytes[..length].to_vec()));
 }
 

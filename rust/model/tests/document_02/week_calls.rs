@@ -277,6 +277,6 @@ fn a_loaded_unit_has_place_0_and_no_windows() {
     assert_eq!(unit, Unit::fresh());
     let mut unit = waiting();
     let before = unit.clone();
-    assert_eq!(unit.load(&[0; 26]), 15);
+    assert_eq!(unit.load(&model::STANDARD_TABLE[1..]), 15);
     assert_eq!(unit, before);
 }
