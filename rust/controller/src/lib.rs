@@ -11,103 +11,113 @@ pub use words::{reason, FINER_MEASUREMENT, HIT, MEASUREMENT, STATES, TICK, WRITE
 
 use std::mem::{align_of, size_of};
 
-/// What the monitors keep of each input; an alarm is 0 or 1.
-#[repr(C)]
-#[derive(Clone, Copy, Debug, PartialEq, Eq)]
-pub struct Monitors {
-    pub level: [u16; 8],
-    pub decay: [u16; 8],
-    pub active: [u16; 8],
-    pub frequency: [u16; 8],
-    pub remainder: [u16; 8],
-    pub soak: [u16; 8],
+/// How many registers there are.
+pub const REGISTERS: usize = 27;
+
+/// The place of a register in a table and in `Unit::regs`, which have them in
+/// address order; None if the address is not in the map.
+pub fn register_place(address: u8) -> Option<usize> {
+    let place = match address {
+        0x1c..=0x27 => address - 0x1c,
+        0x40..=0x4e => address - 0x40 + 12,
+        _ => return None,
+    };
+    Some(usize::from(place))
 }
 
-/// The numbers of a bucket set, one word of four bytes; of the decay it is the
-/// last count before the level falls.
-#[repr(C)]
-#[derive(Clone, Copy, Debug, PartialEq, Eq)]
-pub struct Set {
-    pub size: u8,
-    pub set_level: u8,
-    pub clear_level: u8,
-    pub decay_last: u8,
+/// Structs as the library has them. No byte is in no field, so that two with the
+/// same fields have the same bytes.
+macro_rules! without_padding {
+    ($($(#[$doc:meta])* pub struct $name:ident { $(pub $field:ident: $type:ty,)* })*) => {$(
+        $(#[$doc])*
+        #[repr(C)]
+        #[derive(Clone, Copy, Debug, PartialEq, Eq)]
+        pub struct $name {
+            $(pub $field: $type,)*
+        }
+
+        const _: () = assert!(size_of::<$name>() == 0 $(+ size_of::<$type>())*);
+    )*};
 }
 
-/// The four bucket sets, and the set 0 to 3 that each input has.
-#[repr(C)]
-#[derive(Clone, Copy, Debug, PartialEq, Eq)]
-pub struct Buckets {
-    pub sets: [Set; 4],
-    pub assigned: [u16; 8],
-}
+without_padding! {
+    /// What the monitors keep of each input; an alarm is 0 or 1.
+    pub struct Monitors {
+        pub level: [u16; 8],
+        pub decay: [u16; 8],
+        pub activity: [u16; 8],
+        pub frequency: [u16; 8],
+        pub remainder: [u16; 8],
+        pub soak: [u16; 8],
+    }
 
-/// The history's open block and counts; `builds` is not 0 while a history
-/// builds.
-#[repr(C)]
-#[derive(Clone, Copy, Debug, PartialEq, Eq)]
-pub struct Tally {
-    pub open: i64,
-    pub filled: u16,
-    pub count: u8,
-    pub built: u8,
-    pub backed: u8,
-    pub builds: u8,
-    pub last: u8,
-    pub command: u8,
-}
+    /// The numbers of a bucket set, one word of four bytes; of the decay it is the
+    /// last count before the level falls.
+    pub struct Set {
+        pub size: u8,
+        pub set_level: u8,
+        pub clear_level: u8,
+        pub decay_last: u8,
+    }
 
-/// The history: the first `count` of the sums are in use, the newest first;
-/// likewise the first `built` of the building history's, and the first `backed`
-/// of the backup's.
-#[repr(C)]
-#[derive(Clone, Copy, Debug, PartialEq, Eq)]
-pub struct History {
-    pub tally: Tally,
-    pub sums: [i64; 64],
-    pub building: [i64; 64],
-    pub backup: [i64; 64],
-}
+    /// The four bucket sets, and the set 0 to 3 that each input has.
+    pub struct Buckets {
+        pub sets: [Set; 4],
+        pub assigned: [u16; 8],
+    }
 
-/// What is selected, and the reversion wait.
-#[repr(C)]
-#[derive(Clone, Copy, Debug, PartialEq, Eq)]
-pub struct Choice {
-    pub wait: u64,
-    pub selected: u8,
-    pub aim: u8,
-}
+    /// The history's open block and counts; `builds` is not 0 while a history
+    /// builds.
+    pub struct Tally {
+        pub open: i64,
+        pub filled: u16,
+        pub count: u8,
+        pub built: u8,
+        pub backed: u8,
+        pub builds: u8,
+        pub last: u8,
+        pub command: u8,
+    }
 
-/// The PLL's state and runs.
-#[repr(C)]
-#[derive(Clone, Copy, Debug, PartialEq, Eq)]
-pub struct Loop {
-    pub unlock: u16,
-    pub mode: u16,
-    pub lock: u16,
-}
+    /// What is selected, and the reversion wait for another.
+    pub struct Choice {
+        pub wait: u32,
+        pub selected: u32,
+        pub awaited: u32,
+    }
 
-/// The place in the week, and the start and end of each window in turn; a pair
-/// whose start is not before its end is no window.
-#[repr(C)]
-#[derive(Clone, Copy, Debug, PartialEq, Eq)]
-pub struct Week {
-    pub place: u32,
-    pub windows: [u32; 16],
-}
+    /// The PLL's state and runs.
+    pub struct Loop {
+        pub unlock: u32,
+        pub mode: u32,
+        pub lock: u32,
+    }
 
-/// The whole state of a unit.
-#[repr(C)]
-#[derive(Clone, Copy, Debug, PartialEq, Eq)]
-pub struct Unit {
-    pub monitors: Monitors,
-    pub buckets: Buckets,
-    pub history: History,
-    pub choice: Choice,
-    pub holding: u32,
-    pub week: Week,
-    pub pll: Loop,
-    pub regs: [u8; 27],
+    /// The numbers of the unit as a whole; the place is that of the next tick in
+    /// the week.
+    pub struct Core {
+        pub tally: Tally,
+        pub choice: Choice,
+        pub holding: u32,
+        pub place: u32,
+        pub pll: Loop,
+    }
+
+    /// The whole state of a unit. The first `count` of the sums are in use, the
+    /// newest first; likewise the first `built` of the building history's, and the
+    /// first `backed` of the backup's. The windows are the start and end of each in
+    /// turn; a pair whose start is not before its end is none. After the registers
+    /// are five bytes of 0.
+    pub struct Unit {
+        pub core: Core,
+        pub monitors: Monitors,
+        pub buckets: Buckets,
+        pub sums: [i64; 64],
+        pub building: [i64; 64],
+        pub backup: [i64; 64],
+        pub windows: [u32; 16],
+        pub regs: [u8; 32],
+    }
 }
 
 const fn laid_out<T>(size: usize, align: usize) -> bool {
@@ -119,10 +129,9 @@ const _: () = {
     assert!(laid_out::<Set>(4, 1));
     assert!(laid_out::<Buckets>(32, 2));
     assert!(laid_out::<Tally>(16, 8));
-    assert!(laid_out::<History>(1552, 8));
-    assert!(laid_out::<Choice>(16, 8));
-    assert!(laid_out::<Loop>(6, 2));
-    assert!(laid_out::<Week>(68, 4));
+    assert!(laid_out::<Choice>(12, 4));
+    assert!(laid_out::<Loop>(12, 4));
+    assert!(laid_out::<Core>(48, 8));
     assert!(laid_out::<Unit>(1808, 8));
 };
 
@@ -151,7 +160,7 @@ impl Unit {
     }
 
     /// The refusal's number, 0 if accepted, 12 if the fields are no event. A
-    /// refusal leaves every byte of the unit as it was, padding included.
+    /// refusal leaves every byte of the unit as it was.
     pub fn event(&mut self, kind: u8, a: u8, b: u8, word: i32) -> u8 {
         // SAFETY: the pointer is to a whole unit, lent for the call alone; the
         // function takes every value of the other arguments.
@@ -161,7 +170,7 @@ impl Unit {
     /// Sets a bucket set 0 to 3, and puts each input that has it at its size,
     /// alarm set. The numbers are S, U, L and d of document 02's #104; 14 if
     /// they are out of bounds or the set is over 3, 0 if accepted. A refusal
-    /// leaves every byte of the unit as it was, padding included.
+    /// leaves every byte of the unit as it was.
     pub fn set_bucket(
         &mut self,
         set: u8,
@@ -177,8 +186,7 @@ impl Unit {
 
     /// Gives an input 1 to 8 the bucket set 0 to 3, and puts it at the set's
     /// size, alarm set. 6 if there is no such input, else 14 if there is no such
-    /// set, 0 if accepted. A refusal leaves every byte of the unit as it was,
-    /// padding included.
+    /// set, 0 if accepted. A refusal leaves every byte of the unit as it was.
     pub fn assign_bucket(&mut self, input: u8, set: u8) -> u8 {
         // SAFETY: the pointer is to a whole unit, lent for the call alone; the
         // function takes every value of the other arguments.
@@ -187,7 +195,7 @@ impl Unit {
 
     /// Sets the place in the week, that of the next accepted tick: 16 if it is
     /// 4,725,000 or more, 0 if accepted. A refusal leaves every byte of the unit
-    /// as it was, padding included.
+    /// as it was.
     pub fn set_week(&mut self, place: u32) -> u8 {
         // SAFETY: the pointer is to a whole unit, lent for the call alone; the
         // function takes every value of the other argument.
@@ -197,7 +205,7 @@ impl Unit {
     /// Sets the windows of the busy hours: the first `count` pairs, each from its
     /// start up to but not including its end. 16 if there are over eight, or they
     /// are out of the bounds of document 02's #107, 0 if accepted. A refusal
-    /// leaves every byte of the unit as it was, padding included.
+    /// leaves every byte of the unit as it was.
     pub fn set_windows(&mut self, count: u8, windows: &[u32; 16]) -> u8 {
         // SAFETY: the pointers are to a whole unit and to 16 numbers, lent for the
         // call alone; the function takes every value of them and of the count.
@@ -205,10 +213,9 @@ impl Unit {
     }
 
     /// Makes the unit anew, a fresh one with these values of its registers: a
-    /// byte for each in address order, 0x1c to 0x27 and 0x40 to 0x4e, with 0
-    /// for the command and for those that are read only. 15 if the table does
-    /// not load, 0 if it does. A refusal leaves every byte of the unit as it
-    /// was, padding included.
+    /// byte for each in address order, with 0 for the command and for those that
+    /// are read only. 15 if the table does not load, 0 if it does. A refusal
+    /// leaves every byte of the unit as it was.
     pub fn load(&mut self, table: &[u8]) -> u8 {
         // SAFETY: the pointers are to a whole unit and to as many bytes as the
         // length says, lent for the call alone; the function takes every length

@@ -1,7 +1,7 @@
 //! The places of the fields in the structs that the library shares, and a
 //! first word with the library.
 
-use controller::{Set, Unit};
+use controller::{register_place, Set, Unit, REGISTERS};
 
 /// The distance of a part of the unit from its beginning.
 fn offset<T>(unit: &Unit, part: &T) -> usize {
@@ -11,49 +11,60 @@ fn offset<T>(unit: &Unit, part: &T) -> usize {
 #[test]
 fn the_fields_lie_where_the_interface_says() {
     let unit = Unit::fresh();
-    let (monitors, buckets, history) = (&unit.monitors, &unit.buckets, &unit.history);
-    let tally = &history.tally;
+    let (core, monitors, buckets) = (&unit.core, &unit.monitors, &unit.buckets);
+    let (tally, choice, pll, set) = (&core.tally, &core.choice, &core.pll, &buckets.sets[0]);
     let places = [
-        ("level", offset(&unit, &monitors.level), 0),
-        ("decay", offset(&unit, &monitors.decay), 16),
-        ("active", offset(&unit, &monitors.active), 32),
-        ("frequency", offset(&unit, &monitors.frequency), 48),
-        ("remainder", offset(&unit, &monitors.remainder), 64),
-        ("soak", offset(&unit, &monitors.soak), 80),
-        ("size", offset(&unit, &buckets.sets[0].size), 96),
-        ("set_level", offset(&unit, &buckets.sets[0].set_level), 97),
-        (
-            "clear_level",
-            offset(&unit, &buckets.sets[0].clear_level),
-            98,
-        ),
-        ("decay_last", offset(&unit, &buckets.sets[0].decay_last), 99),
-        ("assigned", offset(&unit, &buckets.assigned), 112),
-        ("open", offset(&unit, &tally.open), 128),
-        ("filled", offset(&unit, &tally.filled), 136),
-        ("count", offset(&unit, &tally.count), 138),
-        ("built", offset(&unit, &tally.built), 139),
-        ("backed", offset(&unit, &tally.backed), 140),
-        ("builds", offset(&unit, &tally.builds), 141),
-        ("last", offset(&unit, &tally.last), 142),
-        ("command", offset(&unit, &tally.command), 143),
-        ("sums", offset(&unit, &history.sums), 144),
-        ("building", offset(&unit, &history.building), 656),
-        ("backup", offset(&unit, &history.backup), 1168),
-        ("wait", offset(&unit, &unit.choice.wait), 1680),
-        ("selected", offset(&unit, &unit.choice.selected), 1688),
-        ("aim", offset(&unit, &unit.choice.aim), 1689),
-        ("holding", offset(&unit, &unit.holding), 1696),
-        ("place", offset(&unit, &unit.week.place), 1700),
-        ("windows", offset(&unit, &unit.week.windows), 1704),
-        ("unlock", offset(&unit, &unit.pll.unlock), 1768),
-        ("mode", offset(&unit, &unit.pll.mode), 1770),
-        ("lock", offset(&unit, &unit.pll.lock), 1772),
-        ("regs", offset(&unit, &unit.regs), 1774),
+        ("open", offset(&unit, &tally.open), 0),
+        ("filled", offset(&unit, &tally.filled), 8),
+        ("count", offset(&unit, &tally.count), 10),
+        ("built", offset(&unit, &tally.built), 11),
+        ("backed", offset(&unit, &tally.backed), 12),
+        ("builds", offset(&unit, &tally.builds), 13),
+        ("last", offset(&unit, &tally.last), 14),
+        ("command", offset(&unit, &tally.command), 15),
+        ("wait", offset(&unit, &choice.wait), 16),
+        ("selected", offset(&unit, &choice.selected), 20),
+        ("awaited", offset(&unit, &choice.awaited), 24),
+        ("holding", offset(&unit, &core.holding), 28),
+        ("place", offset(&unit, &core.place), 32),
+        ("unlock", offset(&unit, &pll.unlock), 36),
+        ("mode", offset(&unit, &pll.mode), 40),
+        ("lock", offset(&unit, &pll.lock), 44),
+        ("level", offset(&unit, &monitors.level), 48),
+        ("decay", offset(&unit, &monitors.decay), 64),
+        ("activity", offset(&unit, &monitors.activity), 80),
+        ("frequency", offset(&unit, &monitors.frequency), 96),
+        ("remainder", offset(&unit, &monitors.remainder), 112),
+        ("soak", offset(&unit, &monitors.soak), 128),
+        ("size", offset(&unit, &set.size), 144),
+        ("set_level", offset(&unit, &set.set_level), 145),
+        ("clear_level", offset(&unit, &set.clear_level), 146),
+        ("decay_last", offset(&unit, &set.decay_last), 147),
+        ("assigned", offset(&unit, &buckets.assigned), 160),
+        ("sums", offset(&unit, &unit.sums), 176),
+        ("building", offset(&unit, &unit.building), 688),
+        ("backup", offset(&unit, &unit.backup), 1200),
+        ("windows", offset(&unit, &unit.windows), 1712),
+        ("regs", offset(&unit, &unit.regs), 1776),
     ];
     for (name, found, expected) in places {
         assert_eq!(found, expected, "{}", name);
     }
+}
+
+/// The addresses that can be read have the places one after the other.
+#[test]
+fn each_register_has_its_place() {
+    let unit = Unit::fresh();
+    let mut places = 0..REGISTERS;
+    for address in 0..=255 {
+        let expected = match unit.read(address).0 {
+            0 => places.next(),
+            _ => None,
+        };
+        assert_eq!(register_place(address), expected, "{:#04x}", address);
+    }
+    assert_eq!(places.next(), None);
 }
 
 /// Fresh bytes, a refusal, and an accepted write, through the library.
@@ -94,7 +105,7 @@ fn the_library_takes_bucket_sets() {
     assert_eq!(unit.assign_bucket(8, 3), 0);
     assert_eq!(unit.buckets.assigned, [0, 0, 0, 0, 0, 0, 0, 3]);
     let monitors = &unit.monitors;
-    let input = (monitors.level[7], monitors.active[7], monitors.decay[7]);
+    let input = (monitors.level[7], monitors.activity[7], monitors.decay[7]);
     assert_eq!(input, (20, 1, 0));
     let before = unit;
     assert_eq!(unit.set_bucket(4, 20, 10, 5, 3), 14);
@@ -108,23 +119,23 @@ fn the_library_takes_bucket_sets() {
 #[test]
 fn the_library_takes_the_week() {
     let mut unit = Unit::fresh();
-    assert_eq!((unit.week.place, unit.week.windows), (0, [0; 16]));
+    assert_eq!((unit.core.place, unit.windows), (0, [0; 16]));
     let mut windows = [7; 16];
     windows[..4].copy_from_slice(&[0, 10, 11, 4_724_999]);
     assert_eq!(unit.set_windows(2, &windows), 0);
     assert_eq!(unit.set_week(4_724_999), 0);
     let mut kept = [0; 16];
     kept[..4].copy_from_slice(&windows[..4]);
-    assert_eq!((unit.week.place, unit.week.windows), (4_724_999, kept));
+    assert_eq!((unit.core.place, unit.windows), (4_724_999, kept));
     let before = unit;
     assert_eq!(unit.set_week(4_725_000), 16);
     assert_eq!(unit.set_windows(3, &windows), 16);
     assert_eq!(unit.set_windows(9, &windows), 16);
     assert_eq!(unit, before);
     assert_eq!(unit.event(0, 0, 0, 0), 0);
-    assert_eq!(unit.week.place, 0);
+    assert_eq!(unit.core.place, 0);
     assert_eq!(unit.set_windows(0, &windows), 0);
-    assert_eq!(unit.week.windows, [0; 16]);
+    assert_eq!(unit.windows, [0; 16]);
 }
 
 /// A table that loads, with a byte for each register, and tables that do not,
@@ -134,7 +145,8 @@ fn the_library_takes_tables() {
     let table = [
         1, 2, 3, 4, 5, 6, 7, 0xf8, 31, 1, 0, 0, 1, 9, 10, 11, 21, 15, 0, 0, 0, 0, 0, 0, 0, 0, 0,
     ];
-    let mut regs = table;
+    let mut regs = [0; 32];
+    regs[..REGISTERS].copy_from_slice(&table);
     regs[7] = 8;
     let mut unit = Unit::fresh();
     assert_eq!(unit.event(0, 0xff, 0, 0), 0);
@@ -145,8 +157,8 @@ fn the_library_takes_tables() {
     assert_eq!(unit.event(0, 0xff, 0, 0), 0);
     let before = unit;
     assert_eq!(unit.load(&[]), 15);
-    assert_eq!(unit.load(&table[..26]), 15);
-    assert_eq!(unit.load(&[0; 27]), 15);
+    assert_eq!(unit.load(&table[..REGISTERS - 1]), 15);
+    assert_eq!(unit.load(&[0; REGISTERS]), 15);
     assert_eq!(unit.load(&[255; 300]), 15);
     assert_eq!(unit, before);
 }

@@ -1,109 +1,24 @@
 //! A refused event, call or table leaves every byte of the unit's memory as it
-//! was, padding included: the unit is held as bytes, and these are lent to the
-//! C functions.
+//! was, and an accepted one the same bytes in two units that were the same: the
+//! unit is held as bytes, twice, and these are lent to the C functions.
 #![cfg(feature = "controller")]
 
 #[path = "devices/held.rs"]
 mod held;
 
-use controller::{Buckets, Choice, History, Loop, Monitors, Set, Tally, Unit, Week};
 use differ::coverage::Coverage;
 use differ::fields::Fields;
 use differ::run::{names, run_lists};
 use differ::sent::Sent;
 use differ::table::Table;
-use held::{Held, PADDING, SIZE};
+use held::{Held, SIZE};
 use model::{BucketSet, Call};
 use shared::random::Random;
 use std::collections::BTreeSet;
-use std::mem::size_of;
-use std::ops::Range;
 
 const SEED: u64 = 4;
 /// How many units of any bytes are tried.
 const ANY_UNITS: u32 = 20_000;
-
-#[test]
-fn the_padding_is_what_no_field_takes() {
-    let unit = Unit::fresh();
-    let fields = places_of_fields(&unit);
-    let free = |place: &usize| !fields.iter().any(|field| field.contains(place));
-    assert_eq!((0..SIZE).filter(free).collect::<Vec<_>>(), PADDING);
-}
-
-/// The places of all fields; one that is forgotten here does not compile.
-fn places_of_fields(unit: &Unit) -> Vec<Range<usize>> {
-    let Unit {
-        monitors,
-        buckets,
-        history,
-        choice,
-        holding,
-        week,
-        pll,
-        regs,
-    } = unit;
-    let Monitors {
-        level,
-        decay,
-        active,
-        frequency,
-        remainder,
-        soak,
-    } = monitors;
-    let Buckets { sets, assigned } = buckets;
-    let History {
-        tally,
-        sums,
-        building,
-        backup,
-    } = history;
-    let Tally {
-        open,
-        filled,
-        count,
-        built,
-        backed,
-        builds,
-        last,
-        command,
-    } = tally;
-    let Choice {
-        wait,
-        selected,
-        aim,
-    } = choice;
-    let Week { place: at, windows } = week;
-    let Loop { unlock, mode, lock } = pll;
-    let mut places = Vec::new();
-    let rows = [level, decay, active, frequency, remainder, soak, assigned];
-    places.extend(rows.map(|row| place(unit, row)));
-    for set in sets {
-        let Set {
-            size,
-            set_level,
-            clear_level,
-            decay_last,
-        } = set;
-        let numbers = [size, set_level, clear_level, decay_last];
-        places.extend(numbers.map(|byte| place(unit, byte)));
-    }
-    places.extend([sums, building, backup].map(|sums| place(unit, sums)));
-    let numbers = [filled, unlock, mode, lock];
-    places.extend(numbers.map(|number| place(unit, number)));
-    let counts = [count, built, backed, builds];
-    places.extend(counts.map(|byte| place(unit, byte)));
-    places.extend([last, command, selected, aim].map(|byte| place(unit, byte)));
-    places.extend([place(unit, wait), place(unit, windows)]);
-    places.extend([holding, at].map(|number| place(unit, number)));
-    places.extend([place(unit, open), place(unit, regs)]);
-    places
-}
-
-fn place<T>(unit: &Unit, field: &T) -> Range<usize> {
-    let start = field as *const T as usize - unit as *const Unit as usize;
-    start..start + size_of::<T>()
-}
 
 const fn event(kind: u8, a: u8, b: u8, word: i32) -> Sent {
     Sent::Fields(Fields { kind, a, b, word })
@@ -134,8 +49,8 @@ fn refused_tables() -> [Table; 7] {
     let standard = Table::STANDARD;
     [
         standard.of_length(0),
-        standard.of_length(26),
-        standard.of_length(28),
+        standard.of_length(standard.length - 1),
+        standard.of_length(standard.length + 1),
         standard.with(0x26, 1),
         standard.with(0x48, 255),
         standard.with(0x41, 10),
@@ -215,11 +130,9 @@ fn numbers() -> impl Iterator<Item = u8> {
 /// Any bytes, a third of them 0 and a third small: most are a unit that no
 /// list of events leads to.
 fn any_unit(random: &mut Random) -> Held {
-    let mut held = Held::fresh_unit();
-    for byte in &mut held.bytes {
-        *byte = random.byte() & random.pick(&[0x00, 0x0f, 0xff]);
-    }
-    held
+    let byte = |random: &mut Random| random.byte() & random.pick(&[0x00, 0x0f, 0xff]);
+    let bytes = [0; SIZE].map(|_| byte(random));
+    Held { units: [bytes; 2] }
 }
 
 #[test]
@@ -237,6 +150,7 @@ fn each_refusal_leaves_the_bytes_of_any_unit() {
     assert!(numbers().all(|number| found.contains(&number)));
 }
 
+/// And each event, call and table leaves the same bytes in both units.
 #[test]
 fn each_refusal_leaves_the_bytes_in_random_lists() {
     let mut coverage = Coverage::empty();

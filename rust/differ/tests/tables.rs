@@ -78,12 +78,9 @@ fn check_answers_of_all(answers: &[(Table, u8)]) {
 }
 
 #[test]
-fn the_length_is_27() {
-    let lengths = (0..=300).chain([512 + 27, 65_535]);
-    let answer = |length| match length {
-        27 => 0,
-        _ => 15,
-    };
+fn the_length_is_that_of_all_registers() {
+    let lengths = (0..=300).chain([512 + STANDARD.length, 65_535]);
+    let answer = |length| if length == STANDARD.length { 0 } else { 15 };
     let answers = lengths.map(|length| (STANDARD.of_length(length), answer(length)));
     check_answers_of_all(&answers.collect::<Vec<_>>());
 }
@@ -177,12 +174,13 @@ fn every_field_of_a_loaded_unit_is_fresh() {
     let mut random = Random::new(SEED);
     let mut held = held::Held::fresh_unit();
     for _ in 0..TABLES / 10 {
-        held.bytes.iter_mut().for_each(|byte| *byte = random.byte());
+        let bytes = held.units.iter_mut().flatten();
+        bytes.for_each(|byte| *byte = random.byte());
         let table = draw::table(&mut random);
         assert_eq!(held.send(table.into()).0, 0, "{}", table);
         let fresh = controller::Unit::fresh();
         let mut regs = fresh.regs;
-        regs.copy_from_slice(&table.bytes());
+        regs[..model::REGISTERS].copy_from_slice(&table.bytes());
         regs[..8].iter_mut().for_each(|byte| *byte &= 0x0f);
         assert!(
             *held.unit() == controller::Unit { regs, ..fresh },

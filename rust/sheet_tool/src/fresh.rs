@@ -4,7 +4,7 @@
 
 use crate::make::Fault;
 use crate::registers;
-use controller::{reason, Unit};
+use controller::{reason, register_place, Unit, REGISTERS};
 
 /// The word of the statement.
 pub const TABLE: &str = "table";
@@ -87,7 +87,7 @@ fn places_at_fault(values: &[u8]) -> Vec<usize> {
 /// each can be tried alone.
 fn others() -> Vec<u8> {
     let with_reject = |reject| {
-        let mut table = vec![0; registers::all().count()];
+        let mut table = vec![0; REGISTERS];
         table[place("reject")] = reject;
         table
     };
@@ -98,6 +98,6 @@ fn others() -> Vec<u8> {
 
 /// The place of a register in a table.
 fn place(name: &str) -> usize {
-    let place = registers::all().position(|register| register.1 == name);
+    let place = registers::address(name).and_then(register_place);
     place.expect("a register's name")
 }

@@ -1,7 +1,9 @@
 //! The registers by name, as the text writes them for an address.
 
-/// The registers from 0x1c on.
-const LOW: [&str; 12] = [
+use controller::{register_place, REGISTERS};
+
+/// In address order.
+const NAMES: [&str; REGISTERS] = [
     "input-1",
     "input-2",
     "input-3",
@@ -14,10 +16,6 @@ const LOW: [&str; 12] = [
     "history-policy",
     "history-command",
     "hours",
-];
-
-/// The registers from 0x40 on.
-const HIGH: [&str; 15] = [
     "control",
     "op-mode",
     "mask",
@@ -37,7 +35,7 @@ const HIGH: [&str; 15] = [
 
 /// Every register's address and name, in address order.
 pub fn all() -> impl Iterator<Item = (u8, &'static str)> {
-    (0x1c..).zip(LOW).chain((0x40..).zip(HIGH))
+    (0..=255).filter_map(|address| Some((address, name(address)?)))
 }
 
 /// None if no register has this name.
@@ -48,6 +46,5 @@ pub fn address(name: &str) -> Option<u8> {
 
 /// None if the address is not in the map.
 pub fn name(address: u8) -> Option<&'static str> {
-    let found = all().find(|register| register.0 == address);
-    found.map(|register| register.1)
+    register_place(address).map(|place| NAMES[place])
 }

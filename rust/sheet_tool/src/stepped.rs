@@ -23,18 +23,18 @@ pub struct Moment {
 
 /// The unit, and then as it is after each step.
 pub fn stepped(mut unit: Unit, steps: impl Iterator<Item = Step>) -> Vec<Moment> {
-    let mut busy = is_busy(&unit.week);
+    let mut busy = is_busy(&unit);
     let mut moments = vec![moment(&unit, 0, busy, 0, None)];
     let mut ticks = 0;
     for step in steps {
-        let in_window = is_busy(&unit.week);
+        let in_window = is_busy(&unit);
         let refusal = step.give(&mut unit);
         let passed = step.ticks(refusal);
         ticks += passed;
         if passed > 0 {
             busy = in_window;
         } else if ticks == 0 {
-            busy = is_busy(&unit.week);
+            busy = is_busy(&unit);
         }
         moments.push(moment(&unit, ticks, busy, refusal, step.call().cloned()));
     }

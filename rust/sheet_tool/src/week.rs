@@ -2,7 +2,7 @@
 //! whether a unit's place is in one.
 
 use crate::number::decimal;
-use controller::Week;
+use controller::Unit;
 use std::fmt;
 
 /// The days in the order of the week: whoever writes one says that Monday 00:00
@@ -45,7 +45,7 @@ pub fn minutes(time: &str) -> Option<i64> {
 
 /// Whether the unit's place is in a window. A pair whose start is not before its
 /// end is none.
-pub fn is_busy(week: &Week) -> bool {
-    let in_window = |pair: &[u32]| (pair[0]..pair[1]).contains(&week.place);
-    week.windows.chunks(2).any(in_window)
+pub fn is_busy(unit: &Unit) -> bool {
+    let in_window = |pair: &[u32]| (pair[0]..pair[1]).contains(&unit.core.place);
+    unit.windows.chunks(2).any(in_window)
 }

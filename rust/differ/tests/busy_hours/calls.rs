@@ -2,6 +2,8 @@
 //! place, and random ones.
 
 use crate::bench::Bench;
+#[cfg(feature = "controller")]
+use crate::held::{Held, SIZE};
 use crate::{busy, windows, EIGHT, WEEK};
 use differ::device::Device;
 use differ::draw;
@@ -143,9 +145,9 @@ fn numbers_around_each_bound_in_each_place() {
 #[cfg(feature = "controller")]
 fn an_accepted_call_writes_the_week_alone() {
     let mut random = Random::new(SEED);
-    let mut held = crate::held::Held::fresh_unit();
     for _ in 0..CALLS / 10 {
-        held.bytes.iter_mut().for_each(|byte| *byte = random.byte());
+        let bytes = [0; SIZE].map(|_| random.byte());
+        let mut held = Held { units: [bytes; 2] };
         let mut expected = *held.unit();
         let place = draw::place(&mut random);
         let call = match random.one_in(2) {
@@ -154,10 +156,10 @@ fn an_accepted_call_writes_the_week_alone() {
         };
         if let Call::SetWindows { count, numbers } = call {
             let written = 2 * usize::from(count);
-            expected.week.windows = [0; 16];
-            expected.week.windows[..written].copy_from_slice(&numbers[..written]);
+            expected.windows = [0; 16];
+            expected.windows[..written].copy_from_slice(&numbers[..written]);
         } else {
-            expected.week.place = place;
+            expected.core.place = place;
         }
         assert_eq!(held.send(call.into()).0, 0, "{:?}", call);
         assert!(*held.unit() == expected, "{:?}", call);

@@ -131,15 +131,15 @@ fn other_stored_weeks() {
     let device = reverting_device(&controller::Unit::fresh(), 0);
     for place in [WEEK - 1, WEEK, WEEK + 1, u32::MAX - 1, u32::MAX] {
         let mut device = device;
-        device.week.place = place;
+        device.core.place = place;
         take(&mut device, TICK);
-        assert_eq!((device.week.place, selected(&device)), (0, R), "{}", place);
+        assert_eq!((device.core.place, selected(&device)), (0, R), "{}", place);
     }
     for (start, end) in [(5, 5), (6, 5), (9, 1), (u32::MAX, 0), (u32::MAX, 9)] {
         for place in 0..10 {
             let mut device = device;
-            device.week.place = place;
-            device.week.windows[6..8].copy_from_slice(&[start, end]);
+            device.core.place = place;
+            device.windows[6..8].copy_from_slice(&[start, end]);
             take(&mut device, TICK);
             assert_eq!(selected(&device), R, "{:?} at {}", (start, end), place);
         }

@@ -1,5 +1,6 @@
-//! The controller's unit held as bytes, which are lent to the C functions: what a
-//! refusal does to the padding is seen too.
+//! The controller's unit held as bytes, which are lent to the C functions. It is
+//! held twice, in memory that had other bytes before: since a unit has no padding,
+//! both have the same bytes whatever they take.
 
 use controller::Unit;
 use differ::device::Device;
@@ -10,10 +11,6 @@ use model::Call;
 use std::mem::size_of;
 
 pub const SIZE: usize = size_of::<Unit>();
-/// The places of the bytes that are in no field.
-pub const PADDING: [usize; 13] = [
-    1690, 1691, 1692, 1693, 1694, 1695, 1801, 1802, 1803, 1804, 1805, 1806, 1807,
-];
 
 extern "C" {
     fn unit_event(unit: *mut u8, kind: u8, a: u8, b: u8, word: i32) -> u8;
@@ -31,79 +28,76 @@ extern "C" {
     fn unit_load(unit: *mut u8, table: *const u8, length: usize) -> u8;
 }
 
-/// A unit as the bytes that it takes, aligned as it must be.
-#[derive(Clone)]
+/// A unit as the bytes that it takes, twice, each aligned as it must be.
+#[derive(Clone, PartialEq)]
 #[repr(C, align(8))]
 pub struct Held {
-    pub bytes: [u8; SIZE],
-    /// What the padding is filled with; another number each time.
-    pattern: u8,
+    pub units: [[u8; SIZE]; 2],
 }
 
 impl Held {
     pub fn fresh_unit() -> Held {
         let mut held = Held {
-            bytes: [0; SIZE],
-            pattern: 0,
+            units: [[0x00; SIZE], [0xff; SIZE]],
         };
-        // SAFETY: the bytes are as many as a unit has, and aligned to 8.
-        unsafe { held.bytes.as_mut_ptr().cast::<Unit>().write(Unit::fresh()) };
-        held.fill_padding();
+        for unit in &mut held.units {
+            // SAFETY: the bytes are as many as a unit has, and aligned to 8.
+            unsafe { unit.as_mut_ptr().cast::<Unit>().write(Unit::fresh()) };
+        }
+        assert!(held.units[0] == held.units[1], "two fresh units");
         held
     }
 
     pub fn unit(&self) -> &Unit {
         // SAFETY: the bytes are those of a unit, and aligned to 8.
-        unsafe { &*self.bytes.as_ptr().cast::<Unit>() }
-    }
-
-    fn fill_padding(&mut self) {
-        self.pattern = self.pattern.wrapping_add(37);
-        for place in PADDING {
-            self.bytes[place] = self.pattern ^ place as u8;
-        }
+        unsafe { &*self.units[0].as_ptr().cast::<Unit>() }
     }
 
     /// The refusal's number, and whether all bytes are as before.
     pub fn send(&mut self, sent: Sent) -> (u8, bool) {
-        self.fill_padding();
-        let before = self.bytes;
-        let unit = self.bytes.as_mut_ptr();
-        // SAFETY: the pointers are to the bytes of a unit, to 16 numbers and to
-        // the bytes of a table, lent for the call alone; the functions take
-        // every value of the other arguments.
-        let refusal = unsafe {
-            match sent {
-                Sent::Fields(Fields { kind, a, b, word }) => unit_event(unit, kind, a, b, word),
-                Sent::Call(Call::SetBucket { set, numbers }) => {
-                    let (size, decay) = (numbers.size, numbers.decay);
-                    let (set_level, clear_level) = (numbers.set_level, numbers.clear_level);
-                    unit_set_bucket(unit, set, size, set_level, clear_level, decay)
-                }
-                Sent::Call(Call::AssignBucket { input, set }) => {
-                    unit_assign_bucket(unit, input, set)
-                }
-                Sent::Call(Call::SetWeek { place }) => unit_set_week(unit, place),
-                Sent::Call(Call::SetWindows { count, numbers }) => {
-                    // A pointer that could be written by, to see that it is not.
-                    let mut lent = numbers;
-                    let refusal = unit_set_windows(unit, count, lent.as_mut_ptr());
-                    assert_eq!(lent, numbers, "the lent numbers are changed");
-                    refusal
-                }
-                Sent::Load(table) => {
-                    let table = table.bytes();
-                    unit_load(unit, table.as_ptr(), table.len())
-                }
-            }
-        };
-        (refusal, self.bytes == before)
+        let before = self.units;
+        let [refusal, other] = [0, 1].map(|i| give(&mut self.units[i], sent));
+        match refusal == other && self.units[0] == self.units[1] {
+            true => (refusal, self.units == before),
+            false => (BYTES_AT_FAULT, false),
+        }
     }
 }
 
-/// In random lists, a refusal that changes a byte is answered by one that there
-/// is not.
-const BYTES_CHANGED: u8 = 255;
+/// The refusal's number.
+fn give(unit: &mut [u8; SIZE], sent: Sent) -> u8 {
+    let unit = unit.as_mut_ptr();
+    // SAFETY: the pointers are to the bytes of a unit, to 16 numbers and to the
+    // bytes of a table, lent for the call alone; the functions take every value
+    // of the other arguments.
+    unsafe {
+        match sent {
+            Sent::Fields(Fields { kind, a, b, word }) => unit_event(unit, kind, a, b, word),
+            Sent::Call(Call::SetBucket { set, numbers }) => {
+                let (size, decay) = (numbers.size, numbers.decay);
+                let (set_level, clear_level) = (numbers.set_level, numbers.clear_level);
+                unit_set_bucket(unit, set, size, set_level, clear_level, decay)
+            }
+            Sent::Call(Call::AssignBucket { input, set }) => unit_assign_bucket(unit, input, set),
+            Sent::Call(Call::SetWeek { place }) => unit_set_week(unit, place),
+            Sent::Call(Call::SetWindows { count, numbers }) => {
+                // A pointer that could be written by, to see that it is not.
+                let mut lent = numbers;
+                let refusal = unit_set_windows(unit, count, lent.as_mut_ptr());
+                assert_eq!(lent, numbers, "the lent numbers are changed");
+                refusal
+            }
+            Sent::Load(table) => {
+                let table = table.bytes();
+                unit_load(unit, table.as_ptr(), table.len())
+            }
+        }
+    }
+}
+
+/// The answer where the two units are not the same, and in random lists where a
+/// refusal changes a byte: a refusal that there is not.
+const BYTES_AT_FAULT: u8 = 255;
 
 impl Device for Held {
     fn name(&self) -> &'static str {
@@ -128,19 +122,12 @@ impl Device for Held {
 
     fn take(&mut self, sent: Sent) -> u8 {
         match self.send(sent) {
-            (refusal, false) if refusal != 0 => BYTES_CHANGED,
+            (refusal, false) if refusal != 0 => BYTES_AT_FAULT,
             (refusal, _) => refusal,
         }
     }
 
     fn read(&self, address: u8) -> (u8, u8) {
         self.unit().read(address)
-    }
-}
-
-/// The padding differs from one time to the next: here the fields alone count.
-impl PartialEq for Held {
-    fn eq(&self, other: &Held) -> bool {
-        self.unit() == other.unit()
     }
 }

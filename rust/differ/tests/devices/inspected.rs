@@ -43,7 +43,7 @@ impl Inspected {
         self.model.inputs.iter().enumerate().all(|(i, input)| {
             monitors.level[i] == u16::from(input.level)
                 && monitors.decay[i] == u16::from(input.decay)
-                && monitors.active[i] == u16::from(input.activity_alarm)
+                && monitors.activity[i] == u16::from(input.activity_alarm)
                 && monitors.frequency[i] == u16::from(input.frequency_alarm)
                 && monitors.remainder[i] == input.remainder
                 && monitors.soak[i] == u16::from(input.soak)
@@ -62,41 +62,41 @@ impl Inspected {
     }
 
     fn history_agrees(&self) -> bool {
-        let (stored, history) = (&self.controller.history, &self.model.history);
-        let tally = &stored.tally;
+        let (unit, history) = (&self.controller, &self.model.history);
+        let tally = &unit.core.tally;
         let none = Blocks::new();
         let building = history.building.as_ref();
         let backup = history.backup.as_ref();
         tally.open == history.open.sum
             && u32::from(tally.filled) == history.open.samples
             && (tally.builds != 0) == building.is_some()
-            && blocks_agree(&stored.sums, tally.count, &history.kept)
-            && blocks_agree(&stored.building, tally.built, building.unwrap_or(&none))
-            && blocks_agree(&stored.backup, tally.backed, backup.unwrap_or(&none))
+            && blocks_agree(&unit.sums, tally.count, &history.kept)
+            && blocks_agree(&unit.building, tally.built, building.unwrap_or(&none))
+            && blocks_agree(&unit.backup, tally.backed, backup.unwrap_or(&none))
             && tally.last == history.last_reference.unwrap_or(0)
             && tally.command == self.model.settings.command
     }
 
     fn selection_agrees(&self) -> bool {
-        let (unit, model) = (&self.controller, &self.model);
+        let (core, model) = (&self.controller.core, &self.model);
         let wait = model.wait;
-        unit.choice.selected == model.selected
-            && unit.choice.wait == u64::from(wait.ticks)
-            && (wait.ticks == 0 || unit.choice.aim == wait.best)
-            && u64::from(unit.holding) == model.holdover_ticks
-            && unit.pll.mode == model.pll.state as u16
-            && unit.pll.lock == u16::from(model.pll.lock_run)
-            && unit.pll.unlock == model.pll.unlock_run
+        core.choice.selected == u32::from(model.selected)
+            && core.choice.wait == wait.ticks
+            && (wait.ticks == 0 || core.choice.awaited == u32::from(wait.best))
+            && u64::from(core.holding) == model.holdover_ticks
+            && core.pll.mode == model.pll.state as u32
+            && core.pll.lock == u32::from(model.pll.lock_run)
+            && core.pll.unlock == u32::from(model.pll.unlock_run)
     }
 
     /// The windows in their order, then 0 and 0.
     fn week_agrees(&self) -> bool {
-        let (stored, week) = (&self.controller.week, &self.model.week);
+        let (unit, week) = (&self.controller, &self.model.week);
         let none = Window::of(0, 0);
         let windows = week.windows.iter().chain(std::iter::repeat(&none));
         let numbers = windows.flat_map(|window| [window.start, window.end]);
-        let all = stored.windows.len();
-        stored.place == week.place && numbers.take(all).eq(stored.windows)
+        let all = unit.windows.len();
+        unit.core.place == week.place && numbers.take(all).eq(unit.windows)
     }
 }
 

@@ -146,21 +146,21 @@ fn given(unit: &mut Unit, text: &str) -> u8 {
 fn what_reaches_the_unit() {
     let mut unit = Unit::fresh();
     assert_eq!(given(&mut unit, "week wed 07:30"), 0);
-    assert_eq!(unit.week.place, 1_560_938);
-    assert_eq!(unit.week.windows, [0; 16]);
+    assert_eq!(unit.core.place, 1_560_938);
+    assert_eq!(unit.windows, [0; 16]);
     let text = "windows 5 to 6, mon 08:00 to mon 18:00, 167:00 to 168:00";
     assert_eq!(given(&mut unit, text), 0);
     let mut stored = [0; 16];
     stored[..6].copy_from_slice(&[5, 6, 225_000, 506_250, 4_696_875, WEEK]);
-    assert_eq!(unit.week.windows, stored);
-    assert_eq!(unit.week.place, 1_560_938);
+    assert_eq!(unit.windows, stored);
+    assert_eq!(unit.core.place, 1_560_938);
     let eight = windows(&ascending(8)).to_string();
     assert_eq!(given(&mut unit, &eight), 0);
-    assert_eq!(unit.week.windows[12..], [18, 20, 21, 23]);
+    assert_eq!(unit.windows[12..], [18, 20, 21, 23]);
     assert_eq!(given(&mut unit, "windows 9 to 10"), 0);
-    assert_eq!(unit.week.windows[..4], [9, 10, 0, 0]);
+    assert_eq!(unit.windows[..4], [9, 10, 0, 0]);
     assert_eq!(given(&mut unit, "windows none"), 0);
-    assert_eq!(unit.week.windows, [0; 16]);
+    assert_eq!(unit.windows, [0; 16]);
 }
 
 /// What the unit turns down is no fault of the text.
@@ -326,13 +326,13 @@ fn a_lost_reference_is_left_in_a_window() {
 }
 
 /// The reversion wait before the first tick, and then after each.
-fn waits(host: &Host) -> Vec<u64> {
+fn waits(host: &Host) -> Vec<u32> {
     let mut unit = Unit::fresh();
-    let mut waits = vec![unit.choice.wait];
+    let mut waits = vec![unit.core.choice.wait];
     for step in &host.steps {
         let refusal = step.give(&mut unit);
         if step.ticks(refusal) > 0 {
-            waits.push(unit.choice.wait);
+            waits.push(unit.core.choice.wait);
         }
     }
     waits

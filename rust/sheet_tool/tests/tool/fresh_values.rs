@@ -3,28 +3,30 @@
 
 use crate::hosts::{check_failed, check_fault, check_no_sheet, host};
 use crate::process::sheet_with;
-use crate::random;
+use crate::random::{self, place};
 use crate::same_records::check_host;
 use crate::xml::texts;
-use controller::Unit;
+use controller::{Unit, REGISTERS};
 use model::STANDARD_TABLE as STANDARD;
 use shared::random::Random;
 use sheet_tool::make::script;
+use sheet_tool::registers::address;
 use sheet_tool::show::show;
 
-/// The places of some registers in a table.
-const HOURS: usize = 11;
-const CONTROL: usize = 12;
-const REJECT: usize = 16;
-const QUALIFICATION: usize = 17;
-const COUNT: usize = 26;
+/// Some registers.
+const FREE_RUN: u8 = 0x24;
+const COMMAND: u8 = 0x26;
+const HOURS: u8 = 0x27;
+const CONTROL: u8 = 0x40;
+const REJECT: u8 = 0x44;
+const QUALIFICATION: u8 = 0x45;
+const COUNT: u8 = 0x4e;
 
-/// The standard table with other values in these places.
-fn table(values: &[(usize, u8)]) -> [u8; 27] {
+/// The standard table with other values of these registers.
+fn table(values: &[(u8, u8)]) -> [u8; REGISTERS] {
     let mut table = STANDARD;
-    values
-        .iter()
-        .for_each(|&(place, value)| table[place] = value);
+    let set = |&(address, value): &(u8, u8)| table[place(address)] = value;
+    values.iter().for_each(set);
     table
 }
 
@@ -100,14 +102,18 @@ fn refused(at_fault: &str) -> String {
     )
 }
 
+fn length(bytes: usize) -> String {
+    format!("length {}", bytes)
+}
+
 /// The line is that of the first value at fault; the last if there is none.
 #[test]
 fn tables_that_do_not_load() {
     for (values, at_fault) in [
-        (&[(10, 3)][..], "history-command 3"),
+        (&[(COMMAND, 3)][..], "history-command 3"),
         (&[(HOURS, 1)], "hours 1"),
         (&[(COUNT, 255), (HOURS, 1)], "hours 1, count 255"),
-        (&[(CONTROL, 2), (8, 32)], "free-run 32, control 2"),
+        (&[(CONTROL, 2), (FREE_RUN, 32)], "free-run 32, control 2"),
         (&[(REJECT, 30)], "reject 30, qualification 25"),
         (&[(QUALIFICATION, 26)], "reject 31, qualification 26"),
         (&[(REJECT, 128)], "reject 128"),
@@ -122,10 +128,14 @@ fn tables_that_do_not_load() {
         let in_lines = statement(&table[..8]) + "\n" + &statement(&table[8..]) + "hit";
         check_fault(&in_lines, 3, &refused(at_fault));
     }
-    check_fault(&statement(&STANDARD[1..]), 1, &refused("length 26"));
+    check_fault(
+        &statement(&STANDARD[1..]),
+        1,
+        &refused(&length(REGISTERS - 1)),
+    );
     let long = format!("{}table 0 # one more\nhit", statement(&STANDARD));
-    check_fault(&long, 2, &refused("length 28"));
-    check_fault("table 0", 1, &refused("length 1"));
+    check_fault(&long, 2, &refused(&length(REGISTERS + 1)));
+    check_fault("table 0", 1, &refused(&length(1)));
 }
 
 /// Each value at fault is named, and no other. With any bytes, the table loads
@@ -147,11 +157,10 @@ fn all_values_at_fault_are_named() {
         };
         let (_, told) = reason.rsplit_once('(').expect("what is at fault");
         let mut repaired = values;
-        let limits = [REJECT, QUALIFICATION];
+        let limits = [REJECT, QUALIFICATION].map(place);
         for named in told.trim_end_matches(')').split(", ") {
             let (name, value) = named.split_once(' ').expect("a name and a value");
-            let place = sheet_tool::registers::all().position(|register| register.1 == name);
-            let place = place.expect("a register's name");
+            let place = place(address(name).expect("a register's name"));
             assert_eq!(values[place].to_string(), value);
             let at_fault = match limits.contains(&place) {
                 true => &limits[..],

@@ -2,7 +2,7 @@
 //! all kinds, in runs of equal ones, also such as the unit turns down; tables
 //! that load.
 
-use controller::{HIT, MEASUREMENT, TICK, WRITE};
+use controller::{register_place, HIT, MEASUREMENT, REGISTERS, TICK, WRITE};
 use shared::random::Random;
 use sheet_tool::event::Event;
 use sheet_tool::sheet::Sheet;
@@ -18,19 +18,25 @@ pub fn sheet(random: &mut Random, settings: usize, events: usize) -> Sheet {
 
 /// A table that loads, of a unit in automatic control more often than not.
 pub fn table(random: &mut Random) -> Vec<u8> {
-    let mut table = vec![0; 27];
-    for value in &mut table[..8] {
-        *value = random.byte();
-    }
-    table[8] = random.pick(&[0, 0, 0x11, 0x1f]);
-    table[9] = random.below(2) as u8;
-    table[12] = random.pick(&[0, 1, 1]);
-    table[13] = random.below(10) as u8;
-    table[14] = random.byte() | random.byte();
-    table[15] = random.below(2) as u8;
-    table[17] = random.below(122) as u8;
-    table[16] = table[17] + 6 + random.below(122 - u32::from(table[17])) as u8;
+    let mut table = vec![0; REGISTERS];
+    let mut set = |address, value| table[place(address)] = value;
+    (0x1c..=0x23).for_each(|address| set(address, random.byte()));
+    set(0x24, random.pick(&[0, 0, 0x11, 0x1f]));
+    set(0x25, random.below(2) as u8);
+    set(0x40, random.pick(&[0, 1, 1]));
+    set(0x41, random.below(10) as u8);
+    set(0x42, random.byte() | random.byte());
+    set(0x43, random.below(2) as u8);
+    let qualification = random.below(122);
+    set(0x45, qualification as u8);
+    let reject = qualification + 6 + random.below(122 - qualification);
+    set(0x44, reject as u8);
     table
+}
+
+/// The place of a register in a table.
+pub fn place(address: u8) -> usize {
+    register_place(address).expect("a register")
 }
 
 /// So many items: half of the runs are of one, a few of many.
