@@ -8,8 +8,8 @@
  * and to unit_read for each read, and writes it by nothing else. A tick is 128 ms. Documents 01 and 02 say what each event and call does and what each
  * register shows.
  *
- * The interface is the registers, by unit_read, and the records and pages of a run sheet. The fields of struct unit are for the eye: they may change from one version
- * to the next, and what is said of them here holds of a unit that is kept so.
+ * The interface is the registers, by unit_read, and the records and pages of a run sheet. The fields of struct unit are for the eye: they may change from one
+ * version to the next, and what is said of them here holds of a unit that is kept so.
  */
 #ifndef CONTROLLER_H
 #define CONTROLLER_H
