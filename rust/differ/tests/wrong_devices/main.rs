@@ -172,12 +172,10 @@ fn a_call_for_windows_is_made_plainer() {
 #[test]
 fn a_table_is_made_plainer() {
     let standard = Table::STANDARD;
+    let short = standard.of_length(standard.length - 1);
     for (name, table) in [
         ("2 let stand at 0x40", standard.with(0x40, 2)),
-        (
-            "a byte too few loads",
-            standard.of_length(standard.length - 1),
-        ),
+        ("a byte too few loads", short),
     ] {
         let wrong = Wrong::with(fault(name));
         let difference = difference(wrong.fault, 100, 0).expect(name);

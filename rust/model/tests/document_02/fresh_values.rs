@@ -196,19 +196,8 @@ fn read_only_registers_and_the_command_have_0() {
 #[test]
 fn other_lengths_do_not_load() {
     let bytes = table(&[]).repeat(12);
-    let all = REGISTERS;
-    let lengths = [
-        0,
-        1,
-        8,
-        12,
-        all - 1,
-        all + 1,
-        all + 2,
-        2 * all,
-        256 + all,
-        300,
-    ];
+    let n = REGISTERS;
+    let lengths = [0, 1, 8, 12, n - 1, n + 1, n + 2, 2 * n, 256 + n, 300];
     refuse_tables(lengths.map(|length| bytes[..length].to_vec()));
 }
 

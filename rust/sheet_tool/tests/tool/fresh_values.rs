@@ -128,11 +128,8 @@ fn tables_that_do_not_load() {
         let in_lines = statement(&table[..8]) + "\n" + &statement(&table[8..]) + "hit";
         check_fault(&in_lines, 3, &refused(at_fault));
     }
-    check_fault(
-        &statement(&STANDARD[1..]),
-        1,
-        &refused(&length(REGISTERS - 1)),
-    );
+    let short = statement(&STANDARD[1..]);
+    check_fault(&short, 1, &refused(&length(REGISTERS - 1)));
     let long = format!("{}table 0 # one more\nhit", statement(&STANDARD));
     check_fault(&long, 2, &refused(&length(REGISTERS + 1)));
     check_fault("table 0", 1, &refused(&length(1)));
