@@ -8,7 +8,7 @@ use lib.Dec.{leb, ltb}
 use lib.ListN.{length, getD}
 use borrow.Author.Tests.{leb-true, lt-ltb, le-ltb}
 use Rattle.rules.specs.Words.{if_then_else_}
-use Rattle.rules.specs.Week.{weekTicks, Window, isWindow, ascending, windowsFit, windowAt, windowsFrom, firstWindows}
+use Rattle.rules.specs.Week.{weekTicks, isWindow, ascending, windowsFit, windowAt, windowsFrom, firstWindows}
 use Rattle.rules.proofs.Tests.{and-left, and-right}
 use Rattle.week.specs.Bridge.{standing, windowsOf, listed, keptAt, keptNumbers}
 use Rattle.week.proofs.Windows.{length-from}

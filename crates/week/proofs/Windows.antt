@@ -8,7 +8,6 @@ use native.Mathlib.Nat.{not-suc-le-zero}
 use lib.Dec.{leb, ltb, eqb}
 use lib.ListN.{length, getD}
 use borrow.Author.Tests.{leb-true, ltb-false, lt-leb, le-leb, le-ltb}
-use Rattle.rules.specs.Words.{if_then_else_}
 use Rattle.rules.specs.Week.{weekTicks, Window, inWindow, busy, isWindow, ascending, startsWeek, lastEnd, endsWeek, windowsFit, windowAt, windowsFrom, firstWindows}
 use Rattle.rules.specs.Refusals.{windowsRefusal}
 use Rattle.rules.proofs.Tests.{by-test, and-false, and-left, and-right}
