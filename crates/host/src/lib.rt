@@ -7,10 +7,13 @@ ghost use Rattle.rules.specs.Week.{firstWindows};
 ghost use Rattle.rules.specs.Loading.{loading};
 ghost use Rattle.rules.specs.Sheet as sheet;
 ghost use Rattle.rules.specs.Sheet.{fields};
-ghost use Rattle.host.specs.Lent.{Made, given, Leads, Shows};
+ghost use Rattle.unit.specs.Given.{Leads};
+ghost use Rattle.host.specs.Lent.{Made, given, Shows};
+use arith::wide16;
 use fields::Decoded;
+use state::Unit;
 use unit::Outcome;
-use unit::Unit;
+use week::Windows;
 
 // ---- by value
 
@@ -50,7 +53,7 @@ pub fn set_week(u: Unit, place: u32) -> Outcome
 }
 
 // The windows of the busy hours are set: start and end of each of the first `count`.
-pub fn set_windows(u: Unit, count: u8, windows: &[u32; 16]) -> Outcome
+pub fn set_windows(u: Unit, count: u8, windows: &Windows) -> Outcome
     ensures { λ r. ⌜ Leads u (given (sheet.event (setWindows (firstWindows count (now (windows .entry)))))) (r .refusal) (r .unit) ⌝ }
 {
     calls::set_windows(u, count, windows)
@@ -61,13 +64,6 @@ pub fn load(u: Unit, table: &[u8]) -> Outcome
     ensures { λ r. ⌜ Leads u (loading (now (table .entry))) (r .refusal) (r .unit) ⌝ }
 {
     loading::load(u, table)
-}
-
-// A byte as a 16-bit number.
-fn wide16(x: u8) -> u16
-    ensures { λ r. ⌜ r ≡ x ⌝ }
-{
-    x as u16
 }
 
 // A read: 256 times the refusal, plus the byte.
@@ -85,7 +81,7 @@ pub fn read(u: Unit, address: u8) -> u16
 pub extern "C" fn unit_fresh() -> Unit
     ensures { λ r. ⌜ Made r ⌝ }
 {
-    unit::fresh()
+    state::fresh()
 }
 
 // One event on a lent unit: the refusal number, 0 if it is accepted. A refusal stores nothing.
@@ -145,7 +141,7 @@ pub extern "C" fn unit_set_week(u: &mut Unit, place: u32) -> u8
 
 // The windows of a lent unit are set: 16 or 0. A refusal stores nothing.
 #[no_mangle]
-pub extern "C" fn unit_set_windows(u: &mut Unit, count: u8, windows: &[u32; 16]) -> u8
+pub extern "C" fn unit_set_windows(u: &mut Unit, count: u8, windows: &Windows) -> u8
     ensures { λ r. ⌜ Leads (now (u .entry)) (given (sheet.event (setWindows (firstWindows count (now (windows .entry)))))) r (now (u .exit)) ⌝ }
 {
     let busy = set_windows(*u, count, windows);

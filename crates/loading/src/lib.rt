@@ -4,21 +4,25 @@ ghost use Prim.Native.Nat.{_%_};
 ghost use lib.Dec.{ltb};
 ghost use lib.ListN.{length, getD};
 ghost use Rattle.rules.specs.Words.{if_then_else_, every};
-ghost use Rattle.rules.specs.Registers.{registers as map, reads, stored, settingsFrom};
+ghost use Rattle.rules.specs.Registers.{mapSize, registers, reads, stored, settingsFrom};
 ghost use Rattle.rules.specs.Loading as rules;
-ghost use Rattle.rules.specs.Loading.{fits, loadRefusal};
-ghost use Rattle.loading.specs.Bridge.{Makes};
-use registers::place;
+ghost use Rattle.rules.specs.Loading.{fits, loadRefusal, loading};
+ghost use Rattle.unit.specs.Given.{Leads};
+use registers::COMMAND_SLOT;
+use registers::QUALIFICATION_SLOT;
+use registers::REGISTERS;
+use registers::REJECT_SLOT;
+use registers::Registers;
+use state::Unit;
 use unit::Outcome;
-use unit::Unit;
 
 // ---- the check
 
-// The most that a table may have at place k: 0 for the command, 0x26, and for a register that is read only.
+// The most that a table may have in slot k: 0 for the command, 0x26, and for a register that is read only.
 fn most(k: usize) -> u8
-    ensures { λ r. ⌜ r ≡ rules.most (getD map k (reads 0)) ⌝ }
+    ensures { λ r. ⌜ r ≡ rules.most (getD registers k (reads 0)) ⌝ }
 {
-    if k == place(0x26) {
+    if k == COMMAND_SLOT {
         return 0;
     }
     let register = registers::row_at(k);
@@ -31,10 +35,10 @@ fn most(k: usize) -> u8
 
 // No byte of a table is above that.
 fn within(table: &[u8]) -> bool
-    requires { ⌜ length (now table) ≡ 27 ⌝ }
-    ensures { λ r. ⌜ r ≡ every (fits (now (table .entry))) map ⌝ }
+    requires { ⌜ length (now table) ≡ mapSize ⌝ }
+    ensures { λ r. ⌜ r ≡ every (fits (now (table .entry))) registers ⌝ }
 {
-    for k in 0..27 {
+    for k in 0..REGISTERS {
         if table[k] > most(k) {
             return false;
         }
@@ -42,17 +46,17 @@ fn within(table: &[u8]) -> bool
     true
 }
 
-// 15 for a table that does not load, else 0. Bytes 16 and 17 are 0x44 and 0x45, the limits.
+// 15 for a table that does not load, else 0.
 pub fn load_refusal(table: &[u8]) -> u8
     ensures { λ r. ⌜ r ≡ loadRefusal (now (table .entry)) ⌝ }
 {
-    if table.len() != 27 {
+    if table.len() != REGISTERS {
         return 15;
     }
     if !within(table) {
         return 15;
     }
-    if !writes::limits_apart(table[16], table[17]) {
+    if !writes::limits_apart(table[REJECT_SLOT], table[QUALIFICATION_SLOT]) {
         return 15;
     }
     0
@@ -60,7 +64,7 @@ pub fn load_refusal(table: &[u8]) -> u8
 
 // ---- the unit
 
-// What is stored of a table's byte at place k. Places 0 to 7 are 0x1c to 0x23, whose bits 7-4 are dropped.
+// What is stored of a table's byte in slot k. Slots 0 to 7 are 0x1c to 0x23, whose bits 7-4 are dropped.
 fn kept(k: usize, v: u8) -> u8
     ensures { λ r. ⌜ r ≡ (if ltb k 8 then v % 16 else v) ⌝ }
 {
@@ -68,12 +72,12 @@ fn kept(k: usize, v: u8) -> u8
 }
 
 // The registers that a table makes.
-fn registers_from(table: &[u8]) -> [u8; 27]
-    requires { ⌜ length (now table) ≡ 27 ⌝ }
+fn registers_from(table: &[u8]) -> Registers
+    requires { ⌜ length (now table) ≡ mapSize ⌝ }
     ensures { λ r. ⌜ settingsFrom r ≡ (λ a. stored a (settingsFrom (now (table .entry)) a)) ⌝ }
 {
-    let mut regs = [0u8; 27];
-    for k in 0..27 {
+    let mut regs = [0u8; 32];
+    for k in 0..REGISTERS {
         regs[k] = kept(k, table[k]);
     }
     regs
@@ -81,12 +85,12 @@ fn registers_from(table: &[u8]) -> [u8; 27]
 
 // The rule `loading`: a unit made anew of a table that loads, or number 15 and the same unit.
 pub fn load(u: Unit, table: &[u8]) -> Outcome
-    ensures { λ r. ⌜ Makes u (now (table .entry)) (r .refusal) (r .unit) ⌝ }
+    ensures { λ r. ⌜ Leads u (loading (now (table .entry))) (r .refusal) (r .unit) ⌝ }
 {
     let number = load_refusal(table);
     if number == 0 {
         let regs = registers_from(table);
-        let made = unit::fresh_with(regs);
+        let made = state::fresh_with(regs);
         return Outcome {
             refusal: 0,
             unit: made,

@@ -1,23 +1,17 @@
 // What a read of a register shows (document 01, "Registers"): hours, state and status, the value, masks and counts, and the settings.
 // Each contract is an equation with a rule of crates/rules/specs/Reading.antt; the rule is named above the function.
 ghost use mathlib.Core.Path.{_≡_};
-ghost use mathlib.Core.Bool.{_||_};
-ghost use mathlib.Core.List.{List};
-ghost use Prim.Native.Nat.{ℕ, min};
-ghost use lib.IntN.{ℤ};
-ghost use lib.ListN.{length};
+ghost use Prim.Native.Nat.{min};
 ghost use Rattle.rules.specs.Words.{if_then_else_};
-ghost use Rattle.rules.specs.State.{Ready};
-ghost use Rattle.rules.specs.History.{value};
+ghost use Rattle.rules.specs.History.{ready, value};
 ghost use Rattle.rules.specs.Reading as reading;
-ghost use Rattle.inputs.specs.declared.Monitors as stored;
-ghost use Rattle.tick.specs.Bridge.{stateOf};
-ghost use Rattle.unit.specs.Bridge.{modelOf};
+ghost use Rattle.pll.specs.Bridge.{modeOf};
+ghost use Rattle.history.specs.Bridge.{historyOf};
+ghost use Rattle.state.specs.Stored.{meaning};
 ghost use Rattle.readout.specs.Bridge.{answerOf};
+use arith::one_of;
 use arith::weigh;
-use tick::Core;
-use unit::Unit;
-use unit::core_of;
+use state::Unit;
 
 // The lesser of a number and 255.
 fn byte_of(n: u32) -> u8
@@ -30,66 +24,56 @@ fn byte_of(n: u32) -> u8
 }
 
 // 0x27, the rule `hours`: whole hours in Holdover.
-fn hours(k: Core) -> u8
-    ensures { λ r. ⌜ ((m : stored.Monitors) (regs windows : List ℕ) (sums building backup : List ℤ) → r ≡ reading.hours (stateOf k m regs windows sums building backup)) ⌝ }
+fn hours(mode: u32, holding: u32) -> u8
+    ensures { λ r. ⌜ r ≡ reading.hours (modeOf mode) holding ⌝ }
 {
-    let held = pll::is_holdover(k.pll.mode);
+    let held = pll::is_holdover(mode);
     if held {
-        return byte_of(k.holding / 28_125);
+        return byte_of(holding / 28_125);
     }
     0
 }
 
 // 0x48, the rule `stateByte`: state and selected.
-pub fn state_byte(k: Core) -> u8
-    ensures { λ r. ⌜ ((m : stored.Monitors) (regs windows : List ℕ) (sums building backup : List ℤ) → r ≡ reading.stateByte (stateOf k m regs windows sums building backup)) ⌝ }
+pub fn state_byte(mode: u32, selected: u32) -> u8
+    ensures { λ r. ⌜ r ≡ reading.stateByte (modeOf mode) selected ⌝ }
 {
-    let mode = pll::mode_number(k.pll.mode);
-    16 * mode + k.choice.selected % 16
-}
-
-// Either test passes.
-fn either(a: bool, b: bool) -> bool
-    ensures { λ r. ⌜ r ≡ (a || b) ⌝ }
-{
-    if a { true } else { b }
+    16 * pll::mode_number(mode) + (selected % 16) as u8
 }
 
 // 0x49, the rule `statusByte`: alarm, not Locked, Ready, backup held.
-pub fn status_byte(k: Core) -> u8
-    ensures { λ r. ⌜ ((m : stored.Monitors) (regs windows : List ℕ) (sums building backup : List ℤ) → length sums ≡ 64 → length backup ≡ 64 → r ≡ reading.statusByte (stateOf k m regs windows sums building backup)) ⌝ }
+pub fn status_byte(mode: u32, ready: bool, held: bool) -> u8
+    ensures { λ r. ⌜ r ≡ reading.statusByte (modeOf mode) ready held ⌝ }
 {
-    let mode = k.pll.mode;
     let holdover = pll::is_holdover(mode);
     let free = pll::is_free_run(mode);
     let locked = pll::is_locked(mode);
-    let ready = history::is_ready(k.tally);
-    let held = history::holds_backup(k.tally);
-    weigh(either(holdover, free), 1) + weigh(!locked, 2) + weigh(ready, 4) + weigh(held, 8)
+    weigh(one_of(holdover, free), 1) + weigh(!locked, 2) + weigh(ready, 4) + weigh(held, 8)
 }
 
 // 0x4a to 0x4d together: the value's 32 bits; 0 unless Ready.
 fn value_bits(u: Unit) -> u32
-    ensures { λ r. ⌜ r ≡ (if Ready (modelOf u) then reading.twos (value (modelOf u .history)) else 0) ⌝ }
+    ensures { λ r. ⌜ r ≡ (if ready (meaning u .history) then reading.twos (value (meaning u .history)) else 0) ⌝ }
 {
-    let h = u.history;
-    let ready = history::is_ready(h.tally);
+    let t = u.core.tally;
+    let sums = u.sums;
+    let ready = history::is_ready(t);
     if ready {
-        return value::twos(value::value(h));
+        return value::twos(value::value(t, sums));
     }
     0
 }
 
 // A register that is read only: the rule `shown`.
 fn shown(u: Unit, a: u8) -> u8
-    ensures { λ r. ⌜ r ≡ reading.shown (modelOf u) a ⌝ }
+    ensures { λ r. ⌜ r ≡ reading.shown (meaning u) a ⌝ }
 {
     let m = u.monitors;
     let soak = m.soak;
     let regs = u.regs;
-    let k = core_of(u);
+    let k = u.core;
     if a == 0x27 {
-        return hours(k);
+        return hours(k.pll.mode, k.holding);
     }
     if a == 0x46 {
         return inputs::qualified_mask(&soak);
@@ -98,10 +82,14 @@ fn shown(u: Unit, a: u8) -> u8
         return candidates::available_mask(&soak, &regs);
     }
     if a == 0x48 {
-        return state_byte(k);
+        return state_byte(k.pll.mode, k.choice.selected);
     }
     if a == 0x49 {
-        return status_byte(k);
+        return status_byte(
+            k.pll.mode,
+            history::is_ready(k.tally),
+            history::holds_backup(k.tally),
+        );
     }
     if a == 0x4a {
         return (value_bits(u) % 256) as u8;
@@ -120,7 +108,7 @@ fn shown(u: Unit, a: u8) -> u8
 
 // A register of the map: the rule `content`.
 fn content(u: Unit, a: u8) -> u8
-    ensures { λ r. ⌜ r ≡ reading.content (modelOf u) a ⌝ }
+    ensures { λ r. ⌜ r ≡ reading.content (meaning u) a ⌝ }
 {
     let regs = u.regs;
     let row = registers::register_at(a);
@@ -128,7 +116,7 @@ fn content(u: Unit, a: u8) -> u8
         return shown(u, a);
     }
     if a == 0x26 {
-        return u.history.tally.command;
+        return u.core.tally.command;
     }
     registers::setting(&regs, a)
 }
@@ -142,7 +130,7 @@ pub struct Answer {
 
 // The rule `read`, at every address.
 pub fn read(u: Unit, a: u8) -> Answer
-    ensures { λ r. ⌜ answerOf r ≡ reading.read (modelOf u) a ⌝ }
+    ensures { λ r. ⌜ answerOf r ≡ reading.read (meaning u) a ⌝ }
 {
     let known = registers::in_map(a);
     if known {

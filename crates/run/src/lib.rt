@@ -1,32 +1,38 @@
 // The run of a sheet on the standard fresh unit (document 01, "Run sheet and rack program"): its settings, its events and their records; and what is exported.
 // Each contract is an equation with a rule of crates/rules/specs/Sheet.antt; the rule is named above the function.
 ghost use mathlib.Core.Path.{_≡_};
-ghost use Prim.Native.Nat.{ℕ, _*_, _≤_};
-ghost use mathlib.Core.List.{List};
-ghost use lib.IntN.{ℤ};
+ghost use Prim.Native.Nat.{_*_, _≤_};
 ghost use lib.ListN.{length};
 ghost use Rattle.rules.specs.Run as rules;
 ghost use Rattle.rules.specs.Sheet as rules-sheet;
 ghost use Rattle.rules.specs.Sheet.{settingsOf, eventsOf, recordOf, records, front, over, outputAfter};
 ghost use Rattle.rules.specs.Registers.{settingsFrom};
-ghost use Rattle.inputs.specs.Bridge.{withSoak};
-ghost use Rattle.inputs.specs.declared.Monitors as stored;
-ghost use Rattle.candidates.specs.Keys.{keysFrom};
-ghost use Rattle.tick.specs.Bridge.{stateOf};
+ghost use Rattle.selection.specs.Bridge.{Follows};
+ghost use Rattle.state.specs.Stored.{Stored, meaning, withCore, withSoak};
+ghost use Rattle.unit.specs.Lent.{entering, leaving};
+use buckets::Row;
+use candidates::Keys;
 use fields::Decoded;
-use history::places;
-use inputs::Monitors;
-use tick::Core;
+use history::Sums;
+use registers::Registers;
+use state::Core;
+use state::Unit;
+use waits::UNREAD;
 
 // ---- the run
 
 // The rule `recordOf`, at the front of a part of the output.
-fn put_record(out: &mut [u8], refusal: u8, k: Core, soak: &[u16; 8])
+fn put_record(out: &mut [u8], refusal: u8, k: Core, soak: &Row)
     requires { ⌜ 4 ≤ length (now out) ⌝ }
-    ensures { λ _. ⌜ ((m : stored.Monitors) (regs windows : List ℕ) (sums building backup : List ℤ) → length sums ≡ 64 → length backup ≡ 64 → now (out .exit) ≡ over (recordOf (record { refusal = refusal; state = stateOf k (withSoak m (now (soak .entry))) regs windows sums building backup })) (now (out .entry))) ⌝ }
+    ensures { λ _. ⌜ ((s : Stored) → now (out .exit) ≡ over (recordOf (record { refusal = refusal; state = meaning (withCore k (withSoak (now (soak .entry)) s)) })) (now (out .entry))) ⌝ }
 {
-    let status = readout::status_byte(k);
-    let state = readout::state_byte(k);
+    let mode = k.pll.mode;
+    let status = readout::status_byte(
+        mode,
+        history::is_ready(k.tally),
+        history::holds_backup(k.tally),
+    );
+    let state = readout::state_byte(mode, k.choice.selected);
     let qualified = inputs::qualified_mask(soak);
     out[0] = refusal;
     out[1] = state;
@@ -39,18 +45,19 @@ fn run_settings(
     part: &[u8],
     n: usize,
     start: Core,
-    soak: &[u16; 8],
-    regs: &mut [u8; 27],
-    keys: &mut [u16; 9],
-    sums: &mut [i64; 64],
-    building: &mut [i64; 64],
-    backup: &mut [i64; 64],
+    soak: &Row,
+    regs: &mut Registers,
+    keys: &mut Keys,
+    handed: &mut u32,
+    sums: &mut Sums,
+    building: &mut Sums,
+    backup: &mut Sums,
     out: &mut [u8],
 ) -> Core
-    requires { ⌜ (2 * n ≤ length (now part)) × (4 * n ≤ length (now out)) × (now keys ≡ keysFrom (settingsFrom (now regs))) ⌝ }
-    ensures { λ r. ⌜ ((m : stored.Monitors) (windows : List ℕ) → stateOf r (withSoak m (now (soak .entry))) (now (regs .exit)) windows (now (sums .exit)) (now (building .exit)) (now (backup .exit)) ≡ rules.run (stateOf start (withSoak m (now (soak .entry))) (now (regs .entry)) windows (now (sums .entry)) (now (building .entry)) (now (backup .entry))) (settingsOf n (now (part .entry)))) ⌝ }
-    ensures { λ _. ⌜ ((m : stored.Monitors) (windows : List ℕ) → now (out .exit) ≡ over (records (stateOf start (withSoak m (now (soak .entry))) (now (regs .entry)) windows (now (sums .entry)) (now (building .entry)) (now (backup .entry))) (settingsOf n (now (part .entry)))) (now (out .entry))) ⌝ }
-    ensures { λ _. ⌜ now (keys .exit) ≡ keysFrom (settingsFrom (now (regs .exit))) ⌝ }
+    requires { ⌜ (2 * n ≤ length (now part)) × (4 * n ≤ length (now out)) × Follows (settingsFrom (now regs)) (now keys) (now handed) ⌝ }
+    ensures { λ r. ⌜ ((s : Stored) → s .monitors .soak ≡ now (soak .entry) → meaning (withCore r (leaving regs sums building backup s)) ≡ rules.run (meaning (withCore start (entering regs sums building backup s))) (settingsOf n (now (part .entry)))) ⌝ }
+    ensures { λ _. ⌜ ((s : Stored) → s .monitors .soak ≡ now (soak .entry) → now (out .exit) ≡ over (records (meaning (withCore start (entering regs sums building backup s))) (settingsOf n (now (part .entry)))) (now (out .entry))) ⌝ }
+    ensures { λ _. ⌜ Follows (settingsFrom (now (regs .exit))) (now (keys .exit)) (now (handed .exit)) ⌝ }
 {
     let mut k = start;
     let mut i = 0;
@@ -62,50 +69,51 @@ fn run_settings(
             k,
             regs,
             keys,
+            handed,
             sums,
             building,
             backup,
         );
-        places(*sums);
-        places(*backup);
         let next = s.core;
-        let place = 4 * i;
-        put_record(&mut out[place..], s.refusal, next, soak);
+        let behind = 4 * i;
+        put_record(&mut out[behind..], s.refusal, next, soak);
         k = next;
         i += 1;
     }
     k
 }
 
-// n events run, up to the first that is none. The rows lie here while they run.
+// n events run, up to the first that is none, on unit u with another core, and with registers and sums that are lent. The rows lie here while they run.
 fn run_events(
     part: &[u8],
     n: usize,
     start: Core,
-    m: Monitors,
-    regs: &mut [u8; 27],
-    keys: &mut [u16; 9],
-    windows: &[u32; 16],
-    sums: &mut [i64; 64],
-    building: &mut [i64; 64],
-    backup: &mut [i64; 64],
+    u: Unit,
+    regs: &mut Registers,
+    keys: &mut Keys,
+    handed: &mut u32,
+    sums: &mut Sums,
+    building: &mut Sums,
+    backup: &mut Sums,
     out: &mut [u8],
 )
-    requires { ⌜ (8 * n ≤ length (now part)) × (4 * n ≤ length (now out)) × (now keys ≡ keysFrom (settingsFrom (now regs))) ⌝ }
-    ensures { λ _. ⌜ now (out .exit) ≡ over (records (stateOf start m (now (regs .entry)) (now (windows .entry)) (now (sums .entry)) (now (building .entry)) (now (backup .entry))) (eventsOf n (now (part .entry)))) (now (out .entry)) ⌝ }
+    requires { ⌜ (8 * n ≤ length (now part)) × (4 * n ≤ length (now out)) × Follows (settingsFrom (now regs)) (now keys) (now handed) ⌝ }
+    ensures { λ _. ⌜ now (out .exit) ≡ over (records (meaning (withCore start (entering regs sums building backup u))) (eventsOf n (now (part .entry)))) (now (out .entry)) ⌝ }
 {
+    let m = u.monitors;
     let mut level = m.level;
     let mut decay = m.decay;
-    let mut active = m.active;
+    let mut activity = m.activity;
     let mut frequency = m.frequency;
     let mut remainder = m.remainder;
     let mut soak = m.soak;
-    let b = m.buckets;
+    let b = u.buckets;
     let numbers = buckets::numbers_of(b);
     let sizes = numbers.sizes;
     let highs = numbers.highs;
     let lows = numbers.lows;
     let lasts = numbers.lasts;
+    let windows = u.windows;
     let mut k = start;
     let mut i = 0;
     while i < n {
@@ -119,7 +127,7 @@ fn run_events(
             k,
             &mut level,
             &mut decay,
-            &mut active,
+            &mut activity,
             &mut frequency,
             &mut remainder,
             &mut soak,
@@ -129,16 +137,15 @@ fn run_events(
             &lasts,
             regs,
             keys,
-            windows,
+            handed,
+            &windows,
             sums,
             building,
             backup,
         );
-        places(*sums);
-        places(*backup);
         let next = s.core;
-        let place = 4 * i;
-        put_record(&mut out[place..], s.refusal, next, &soak);
+        let behind = 4 * i;
+        put_record(&mut out[behind..], s.refusal, next, &soak);
         k = next;
         i += 1;
     }
@@ -155,23 +162,24 @@ pub fn run_into(sheet: &[u8], out: &mut [u8]) -> usize
     let c = sheet::counts_of(sheet);
     let settings = c.settings;
     let events = c.events;
-    let u = unit::fresh();
+    let u = state::fresh();
     let m = u.monitors;
     let soak = m.soak;
     let mut regs = u.regs;
-    let h = u.history;
-    let mut sums = h.sums;
-    let mut building = h.building;
-    let mut backup = h.backup;
+    let mut sums = u.sums;
+    let mut building = u.building;
+    let mut backup = u.backup;
     let mut keys = candidates::keys_of(&regs);
-    let windows = u.week.windows;
+    let mut handed = UNREAD;
+    let fresh = u.core;
     let k = run_settings(
         &sheet[2..],
         settings,
-        unit::core_of(u),
+        fresh,
         &soak,
         &mut regs,
         &mut keys,
+        &mut handed,
         &mut sums,
         &mut building,
         &mut backup,
@@ -183,10 +191,10 @@ pub fn run_into(sheet: &[u8], out: &mut [u8]) -> usize
         &sheet[start..],
         events,
         k,
-        m,
+        u,
         &mut regs,
         &mut keys,
-        &windows,
+        &mut handed,
         &mut sums,
         &mut building,
         &mut backup,

@@ -15,10 +15,10 @@ ghost use Rattle.week.specs.Bridge.{windowsOf};
 ghost use Rattle.selection.specs.Bridge.{choiceOf, Follows};
 use arith::both;
 use arith::wide32;
+use buckets::Row;
 use candidates::Keys;
 use candidates::best_of;
 use candidates::is_candidate;
-use inputs::Row;
 use inputs::qualified_at;
 use registers::Registers;
 use registers::is_automatic;
@@ -87,7 +87,7 @@ fn switches(n: u32, wait: u32) -> bool
 
 // The selected one stays, with this wait for `b`.
 fn waiting(wait: u32, b: u32, c: Choice) -> Choice
-    ensures { λ r. ⌜ choiceOf r ≡ record { selected = c .selected; wait = wait; waitFor = b } ⌝ }
+    ensures { λ r. ⌜ choiceOf r ≡ record { selected = c .selected; wait = wait; awaited = b } ⌝ }
 {
     Choice {
         wait: wait,

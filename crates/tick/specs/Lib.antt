@@ -1,2 +1,2 @@
--- What the contracts of the core cite.
-pub mod Bridge
+-- What the contracts of a tick cite.
+pub mod Lent

@@ -2,9 +2,6 @@
 // numbers go by value.
 ghost use mathlib.Core.Path.{_≡_};
 ghost use mathlib.Core.Bool.{_&&_};
-ghost use mathlib.Core.List.{List};
-ghost use lib.IntN.{ℤ};
-ghost use lib.ListN.{length};
 ghost use Rattle.rules.specs.Words.{if_then_else_, isTracked};
 ghost use Rattle.rules.specs.Monitors.{lockAlarmed};
 ghost use Rattle.rules.specs.Pll.{alarmDue};
@@ -13,32 +10,27 @@ ghost use Rattle.rules.specs.Inputs.{altered};
 ghost use Rattle.rules.specs.Tick as rules;
 ghost use Rattle.rules.specs.Registers.{settingsFrom};
 ghost use Rattle.buckets.specs.Bridge.{numbers, numbersOf};
-ghost use Rattle.inputs.specs.Bridge.{inputsOf, withLockAlarms, across};
+ghost use Rattle.inputs.specs.Bridge.{inputsOf, withLockAlarms};
 ghost use Rattle.inputs.specs.declared.Monitors as stored;
-ghost use Rattle.candidates.specs.Keys.{keysFrom};
 ghost use Rattle.pll.specs.Bridge.{loopOf};
-ghost use Rattle.tick.specs.Bridge.{stateOf};
+ghost use Rattle.selection.specs.Bridge.{Follows};
+ghost use Rattle.state.specs.Stored.{Stored, meaning};
+ghost use Rattle.tick.specs.Lent.{across};
 use arith::both;
-use arith::one_to_eight;
-use history::Tally;
+use arith::is_tracked;
+use buckets::Row;
+use candidates::Keys;
+use history::Sums;
 use pll::Loop;
-use selection::Choice;
-
-// The numbers of the state that are in no array: what a tick takes and gives by value.
-#[repr(C)]
-pub struct Core {
-    pub tally: Tally,
-    pub choice: Choice,
-    pub holding: u32,
-    pub place: u32,
-    pub pll: Loop,
-}
+use registers::Registers;
+use state::Core;
+use week::Windows;
 
 // Step 3: "Only if a reference 1 to 8 is selected when the tick begins."
-fn looped(lock: bool, selected: u8, p: Loop) -> Loop
+fn looped(lock: bool, selected: u32, p: Loop) -> Loop
     ensures { λ r. ⌜ loopOf r ≡ (if isTracked selected then pll.looped lock (loopOf p) else loopOf p) ⌝ }
 {
-    let tracked = one_to_eight(selected);
+    let tracked = is_tracked(selected);
     if tracked {
         return pll::looped(lock, p);
     }
@@ -46,46 +38,47 @@ fn looped(lock: bool, selected: u8, p: Loop) -> Loop
 }
 
 // Step 3: "Unlock run 782 (100 s) sets that input's lock alarm".
-fn alarmed(selected: u8, p: Loop, remainder: &mut [u16; 8], soak: &mut [u16; 8])
+fn alarmed(selected: u32, p: Loop, remainder: &mut Row, soak: &mut Row)
     ensures { λ _. ⌜ ((m : stored.Monitors) → inputsOf (withLockAlarms m (now (remainder .exit)) (now (soak .exit))) ≡ (if isTracked selected && alarmDue (loopOf p) then altered lockAlarmed selected (inputsOf (withLockAlarms m (now (remainder .entry)) (now (soak .entry)))) else inputsOf (withLockAlarms m (now (remainder .entry)) (now (soak .entry))))) ⌝ }
 {
-    let due = both(one_to_eight(selected), pll::alarm_due(p));
+    let due = both(is_tracked(selected), pll::alarm_due(p));
     if due {
         inputs::alarm(remainder, soak, selected);
         return;
     }
 }
 
-// The rule `ticked`, where the numbers are those of each input's set, and the keys those of the registers.
+// The rule `ticked`, where the numbers are those of each input's set, and keys and delay follow from the registers.
 pub fn tick(
     mask: u8,
     lock: bool,
     x: i32,
     k: Core,
-    level: &mut [u16; 8],
-    decay: &mut [u16; 8],
-    active: &mut [u16; 8],
-    frequency: &[u16; 8],
-    remainder: &mut [u16; 8],
-    soak: &mut [u16; 8],
-    sizes: &[u16; 8],
-    highs: &[u16; 8],
-    lows: &[u16; 8],
-    lasts: &[u16; 8],
-    regs: &[u8; 27],
-    keys: &[u16; 9],
-    windows: &[u32; 16],
-    sums: &mut [i64; 64],
-    building: &mut [i64; 64],
+    level: &mut Row,
+    decay: &mut Row,
+    activity: &mut Row,
+    frequency: &Row,
+    remainder: &mut Row,
+    soak: &mut Row,
+    sizes: &Row,
+    highs: &Row,
+    lows: &Row,
+    lasts: &Row,
+    regs: &Registers,
+    keys: &Keys,
+    handed: u32,
+    windows: &Windows,
+    sums: &mut Sums,
+    building: &mut Sums,
 ) -> Core
-    ensures { λ r. ⌜ across level decay active (now (frequency .entry)) remainder soak (λ before after. (backup : List ℤ) → numbers (now (sizes .entry)) (now (highs .entry)) (now (lows .entry)) (now (lasts .entry)) ≡ numbersOf (before .buckets) → length (now (sums .entry)) ≡ 64 → now (keys .entry) ≡ keysFrom (settingsFrom (now (regs .entry))) → stateOf r after (now (regs .entry)) (now (windows .entry)) (now (sums .exit)) (now (building .exit)) backup ≡ rules.ticked mask lock x (stateOf k before (now (regs .entry)) (now (windows .entry)) (now (sums .entry)) (now (building .entry)) backup)) ⌝ }
+    ensures { λ r. ⌜ across level decay activity (now (frequency .entry)) remainder soak (now (regs .entry)) (now (windows .entry)) sums building (λ before after. (s : Stored) → numbers (now (sizes .entry)) (now (highs .entry)) (now (lows .entry)) (now (lasts .entry)) ≡ numbersOf (s .buckets) → Follows (settingsFrom (now (regs .entry))) (now (keys .entry)) handed → meaning (after r s) ≡ rules.ticked (record { mask = mask; lock = lock; sample = x }) (meaning (before k s))) ⌝ }
 {
     // steps 1 and 2
     monitor::watched(
         mask,
         level,
         decay,
-        active,
+        activity,
         frequency,
         remainder,
         soak,
@@ -100,7 +93,7 @@ pub fn tick(
     // step 4, at the place that stands, and the place after it; on a copy of the soaks: of a row that lies at hand eight are compared side by side
     let soaks = *soak;
     let place = week::advanced(k.place);
-    let choice = selection::chosen(&soaks, regs, keys, windows, k.place, k.choice);
+    let choice = selection::chosen(&soaks, regs, keys, handed, windows, k.place, k.choice);
     let steered = pll::steered(
         registers::is_automatic(regs),
         registers::setting(regs, 0x41),

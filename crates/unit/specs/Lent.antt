@@ -1,64 +1,29 @@
--- What is stored, as it lies in the arrays that a step is lent: when the call begins, and when it returns. The core goes by value, and the windows are lent
--- for reading.
+-- What a write, and what a step, is lent of a unit: as it lies when the call begins, and when it returns.
 use Prim.Native.Nat.{ℕ}
 use mathlib.Core.List.{List}
-use lib.IntN.{ℤ}
-use denote.Ref.{RefT, now}
-use denote.Triple.Both.{Both}
-use Rattle.buckets.specs.declared.Buckets.{Buckets}
+use denote.Ref.{now}
 use Rattle.inputs.specs.Bridge.{Row}
-use Rattle.tick.specs.declared.Core.{Core}
-use Rattle.unit.specs.Bridge.{Stored}
+use Rattle.state.specs.Stored.{Stored, withRegisters, withSums, withBuilding, withBackup}
+use Rattle.state.specs.declared.Core.{Core}
+use Rattle.tick.specs.Lent as tick
+use Rattle.tick.specs.Lent.{Sums}
 
--- an array of sums that is lent for a change
-abbrev pub Sums : Type 0
-Sums = Both (RefT (List ℤ)) (RefT (List ℤ))
+-- a unit with what a write is lent: registers, and three arrays of sums
+abbrev pub entering : Row → Sums → Sums → Sums → Stored → Stored
+entering regs sums building backup s =
+    withRegisters (now (regs .entry)) (withSums (now (sums .entry)) (withBuilding (now (building .entry)) (withBackup (now (backup .entry)) s)))
 
-abbrev pub entering : Row → Row → Row → Row → Row → Row → Row → List ℕ → Sums → Sums → Sums → Buckets → Core → Stored
-entering level decay active frequency remainder soak regs windows sums building backup buckets k =
-    record {
-      core = k;
-      rows =
-          record {
-            level = now (level .entry);
-            decay = now (decay .entry);
-            active = now (active .entry);
-            frequency = now (frequency .entry);
-            remainder = now (remainder .entry);
-            soak = now (soak .entry);
-            buckets = buckets;
-          };
-      regs = now (regs .entry);
-      windows = windows;
-      sums = now (sums .entry);
-      building = now (building .entry);
-      backup = now (backup .entry);
-    }
+abbrev pub leaving : Row → Sums → Sums → Sums → Stored → Stored
+leaving regs sums building backup s =
+    withRegisters (now (regs .exit)) (withSums (now (sums .exit)) (withBuilding (now (building .exit)) (withBackup (now (backup .exit)) s)))
 
-abbrev pub leaving : Row → Row → Row → Row → Row → Row → Row → List ℕ → Sums → Sums → Sums → Buckets → Core → Stored
-leaving level decay active frequency remainder soak regs windows sums building backup buckets k =
-    record {
-      core = k;
-      rows =
-          record {
-            level = now (level .exit);
-            decay = now (decay .exit);
-            active = now (active .exit);
-            frequency = now (frequency .exit);
-            remainder = now (remainder .exit);
-            soak = now (soak .exit);
-            buckets = buckets;
-          };
-      regs = now (regs .exit);
-      windows = windows;
-      sums = now (sums .exit);
-      building = now (building .exit);
-      backup = now (backup .exit);
-    }
-
--- what is said of them as a call begins and as it returns, each with a core, whatever the sets are
-abbrev pub across : Row → Row → Row → Row → Row → Row → Row → List ℕ → Sums → Sums → Sums → ((Core → Stored) → (Core → Stored) → Type 0) → Type 0
-across level decay active frequency remainder soak regs windows sums building backup says =
-    (buckets : Buckets)
-    → says (entering level decay active frequency remainder soak regs windows sums building backup buckets)
-    (leaving level decay active frequency remainder soak regs windows sums building backup buckets)
+-- what is said of a unit with what a step is lent: that of a tick, and the backup
+abbrev pub across :
+    Row → Row → Row → Row → Row → Row → Row → List ℕ → Sums → Sums → Sums
+    → ((Core → Stored → Stored) → (Core → Stored → Stored) → Type 0) → Type 0
+across level decay activity frequency remainder soak regs windows sums building backup says =
+    says
+    (λ k s. tick.entering level decay activity (now (frequency .entry)) remainder soak (now (regs .entry)) windows sums building k
+    (withBackup (now (backup .entry)) s))
+    (λ k s. tick.leaving level decay activity (now (frequency .exit)) remainder soak (now (regs .exit)) windows sums building k
+    (withBackup (now (backup .exit)) s))

@@ -1,4 +1,4 @@
 -- What the unit's contracts cite.
-pub mod Bridge
 pub mod Events
+pub mod Given
 pub mod Lent

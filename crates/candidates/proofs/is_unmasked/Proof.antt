@@ -16,4 +16,4 @@ returns-3 : tie.Need-returns-3
 returns-3 c = rw (le-leb _ _ (c .before .if1 .left), lt-leb _ _ (c .if2 .left))
 
 pub is-unmasked-spec : {M : Type 1} → statement M
-is-unmasked-spec = tie.close (tie.spec returns (search needs) returns-2 returns-3)
+is-unmasked-spec = tie.close (tie.spec returns (search needs) (search needs) returns-2 returns-3)

@@ -12,16 +12,16 @@ use Rattle.selection.proofs.chosen.Tie as tie
 
 returns : tie.Need-returns
 unfolding chosen
-returns c m e =
+returns c m f =
     let a = c .before .before .before .before .args in
     let S = settingsFrom (a .regs .now) in
     rw (← c .before .before .before .is-automatic .ensures, c .before .before .if1 .taken)
-    (c .reselected .ensures m
-    ∙ ap (λ b. reselected (busy (windowsOf (a .windows .now)) (a .place)) S (inputsOf (withSoak m (a .soak .now))) b (choiceOf (a .c))) (c .before .best-of .ensures S m e))
+    (c .reselected .ensures m (f .delayed)
+    ∙ ap (λ b. reselected (busy (windowsOf (a .windows .now)) (a .place)) S (inputsOf (withSoak m (a .soak .now))) b (choiceOf (a .c))) (c .before .best-of .ensures S m (f .keyed)))
 
 returns-2 : tie.Need-returns-2
 unfolding chosen
-returns-2 c m e = rw (← c .before .before .is-automatic .ensures, c .before .if1 .left) (c .manual .ensures m)
+returns-2 c m f = rw (← c .before .before .is-automatic .ensures, c .before .if1 .left) (c .manual .ensures m)
 
 pub chosen-spec : {M : Type 1} → statement M
 chosen-spec =

@@ -8,7 +8,8 @@ use Rattle.rules.specs.Selection.{candidate, settled, reverted, reselected}
 use Rattle.rules.specs.Registers.{settingsFrom}
 use Rattle.rules.specs.Week.{busy}
 use Rattle.week.specs.Bridge.{windowsOf}
-use Rattle.rules.specs.Settings.{delayTicks, revertive}
+use Rattle.rules.specs.Settings.{revertive}
+use Rattle.waits.specs.Handed.{ticksOf}
 use Rattle.inputs.specs.Bridge.{inputsOf, withSoak}
 use Rattle.selection.specs.Bridge.{choiceOf}
 use Rattle.selection.proofs.reselected.Statement.{statement}
@@ -21,22 +22,22 @@ alike false p = refl
 
 returns : tie.Need-returns
 unfolding reselected
-returns c m =
+returns c m d =
     let a = c .before .before .before .args in
     let stands = candidate (settingsFrom (a .regs .now)) (inputsOf (withSoak m (a .soak .now))) (a .c .selected) in
     rw (eq-eqb _ _ (c .before .if1 .taken)) (c .settled .ensures ∙ alike stands (ap settled (c .before .if1 .taken)))
 
 returns-2 : tie.Need-returns-2
 unfolding reselected
-returns-2 c m =
+returns-2 c m d =
     let a = c .before .before .before .before .before .before .before .before .before .args in
     let reverts : revertive (settingsFrom (a .regs .now)) (a .c .selected) ≡ true = sym (c .before .before .before .before .is-revertive .ensures) ∙ c .before .before .before .if3 .taken in
     rw (← c .before .before .before .before .before .before .is-candidate .ensures m, c .before .before .before .before .before .if2 .taken, ne-eqb _ _ (c .before .before .before .before .before .before .before .if1 .left), reverts)
-    (c .reverted .ensures ∙ ap (λ n. reverted (busy (windowsOf (a .windows .now)) (a .place)) n (a .b) (choiceOf (a .c))) (c .before .delay-ticks .ensures ∙ ap delayTicks (c .before .before .setting .ensures)))
+    (c .reverted .ensures ∙ ap (λ n. reverted (busy (windowsOf (a .windows .now)) (a .place)) n (a .b) (choiceOf (a .c))) (c .before .ticks-of .ensures ∙ ap (ticksOf (a .handed)) (c .before .before .setting .ensures) ∙ d))
 
 returns-3 : tie.Need-returns-3
 unfolding reselected
-returns-3 c m =
+returns-3 c m d =
     let a = c .before .before .before .before .before .before .before .args in
     let stays : revertive (settingsFrom (a .regs .now)) (a .c .selected) ≡ false = sym (c .before .before .is-revertive .ensures) ∙ c .before .if3 .left in
     rw (← c .before .before .before .before .is-candidate .ensures m, c .before .before .before .if2 .taken, ne-eqb _ _ (c .before .before .before .before .before .if1 .left), stays)
@@ -44,7 +45,7 @@ returns-3 c m =
 
 returns-4 : tie.Need-returns-4
 unfolding reselected
-returns-4 c m = rw (← c .before .before .is-candidate .ensures m, c .before .if2 .left) (c .settled3 .ensures)
+returns-4 c m d = rw (← c .before .before .is-candidate .ensures m, c .before .if2 .left) (c .settled3 .ensures)
 
 pub reselected-spec : {M : Type 1} → statement M
 reselected-spec =

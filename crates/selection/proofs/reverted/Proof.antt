@@ -21,7 +21,7 @@ returns c =
     let known = tested .before in
     let a = known .before .args in
     c .waiting .ensures
-    ∙ (λ i. record { selected = a .c .selected; wait = known .wait-after .ensures i; waitFor = a .b })
+    ∙ (λ i. record { selected = a .c .selected; wait = known .wait-after .ensures i; awaited = a .b })
     ∙ sym (not-over (a .n) (a .b) (choiceOf (a .c)) (busy (windowsOf (a .windows .now)) (a .place)) (sym (over tested) ∙ not-true _ (c .before .if1 .taken)))
 
 returns-2 : tie.Need-returns-2
@@ -41,7 +41,7 @@ returns-3 c =
     let a = found .before .before .before .before .args in
     let blocked = sym (not-false _ (known .before .if2 .left)) ∙ found .is-busy .ensures in
     c .waiting2 .ensures
-    ∙ (λ i. record { selected = a .c .selected; wait = known .wait-after2 .ensures i; waitFor = a .b })
+    ∙ (λ i. record { selected = a .c .selected; wait = known .wait-after2 .ensures i; awaited = a .b })
     ∙ sym (kept (a .n) (a .b) (choiceOf (a .c)))
     ∙ ap (λ (t : Bool). reverted t (a .n) (a .b) (choiceOf (a .c))) blocked
 

@@ -40,7 +40,7 @@ counted c =
     let same = short .before .before in
     let some = same .before .before in
     let a = some .before .before .args in
-    rw (ne-eqb _ _ (some .if1 .left), eq-eqb (a .c .aim) (a .b) (same .if2 .taken), tested c)
+    rw (ne-eqb _ _ (some .if1 .left), eq-eqb (a .c .awaited) (a .b) (same .if2 .taken), tested c)
     (if-case (λ m. min waitLimit m ≡ m) (c .both .result) (λ t. omega (arith, short .if3 .taken)) (λ t. omega (arith, short .if3 .taken)))
 
 returns-2 : tie.Need-returns-2
@@ -55,7 +55,7 @@ returns-4 c =
     let same = c .before .before in
     let some = same .before .before in
     let a = some .before .before .args in
-    rw (ne-eqb _ _ (some .if1 .left), eq-eqb (a .c .aim) (a .b) (same .if2 .taken))
+    rw (ne-eqb _ _ (some .if1 .left), eq-eqb (a .c .awaited) (a .b) (same .if2 .taken))
     (if-case (λ m. waitLimit ≡ min waitLimit m) (a .blocked && leb (a .n + 1) (a .c .wait)) (λ t. omega (arith, c .if3 .left)) (λ t. omega (arith, c .if3 .left)))
 
 returns-5 : tie.Need-returns-5

@@ -1,2 +1,0 @@
--- What the contract of a load cites.
-pub mod Bridge
