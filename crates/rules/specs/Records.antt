@@ -30,9 +30,9 @@ pub record RecordServed (r : ℕ) (s : State) (since : List Event) (records : Li
   pub ready-is : 6_379 + reversion (s .settings) ≤ acceptedTicks s since → shownReady records i ≡ true
 
 -- THE PROMISE IN THE RECORDS. Take every sheet that runs; its settings and events are `before`, `after`, an event e and the rest, with the moment after
--- `before`. For every reference r for which the provisos hold from the moment up to and with e: if 860 + n accepted ticks have come by then, e among them, the
--- record of e shows r as selected; if 6,379 + n have, it shows Ready too. The fresh unit is the standard one, on which every sheet runs, the sets are as they
--- start, and there is no window, since a sheet holds no call.
+-- `before`. For every reference r for which the provisos hold from the moment up to and with e: if 860 + n of the events since the moment, e itself included,
+-- are accepted ticks, the record of e shows r as selected; if 6,379 + n are, it shows Ready too. The fresh unit is the standard one, on which every sheet
+-- runs, the sets are as they start, and there is no window, since a sheet holds no call.
 abbrev pub RecordsPromise : Type 0
 RecordsPromise =
     (sheet : List ℕ) (room : ℕ) (before after : List Event) (e : Event) (rest : List Event) (r : ℕ)
