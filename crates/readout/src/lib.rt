@@ -6,7 +6,6 @@ ghost use Rattle.rules.specs.Words.{if_then_else_};
 ghost use Rattle.rules.specs.History.{ready, value};
 ghost use Rattle.rules.specs.Reading as reading;
 ghost use Rattle.pll.specs.Bridge.{modeOf};
-ghost use Rattle.history.specs.Bridge.{historyOf};
 ghost use Rattle.state.specs.Stored.{meaning};
 ghost use Rattle.readout.specs.Bridge.{answerOf};
 use arith::one_of;

@@ -7,11 +7,11 @@ use Rattle.readout.proofs.hours.Tie as tie
 
 returns : tie.Need-returns
 unfolding reading.hours
-returns c = λ m regs windows sums building backup. rw (← c .before .before .before .is-holdover .ensures, c .before .before .if1 .taken) (c .byte-of .ensures)
+returns c = rw (← c .before .before .is-holdover .ensures, c .before .if1 .taken) (c .byte-of .ensures)
 
 returns-2 : tie.Need-returns-2
 unfolding reading.hours
-returns-2 c = λ m regs windows sums building backup. rw (← c .before .is-holdover .ensures, c .if1 .left) refl
+returns-2 c = rw (← c .before .is-holdover .ensures, c .if1 .left) refl
 
 pub hours-spec : {M : Type 1} → statement M
 hours-spec = tie.close (tie.spec (search needs) (search needs) returns returns-2)

@@ -9,14 +9,14 @@ use Rattle.rules.specs.Reading as reading
 use Rattle.readout.proofs.state_byte.Tie as tie
 
 mul-result : tie.Need-mul-result
-mul-result c = omega (arith, c .mode-number .ensures, number-mode (c .before .args .k .pll .mode))
+mul-result c = omega (arith, c .mode-number .ensures, number-mode (c .before .args .mode))
 
 add-result : tie.Need-add-result
-add-result c = omega (arith, c .before .mode-number .ensures, number-mode (c .before .before .args .k .pll .mode))
+add-result c = omega (arith, c .mode-number .ensures, number-mode (c .before .args .mode))
 
 returns : tie.Need-returns
 unfolding reading.stateByte
-returns c = λ m regs windows sums building backup. ap (λ (n : ℕ). 16 * n + c .before .before .args .k .choice .selected % 16) (c .before .mode-number .ensures)
+returns c = ap (λ (n : ℕ). 16 * n + c .before .args .selected % 16) (c .mode-number .ensures)
 
 pub state-byte-spec : {M : Type 1} → statement M
-state-byte-spec = tie.close (tie.spec (search needs) mul-result add-result returns)
+state-byte-spec = tie.close (tie.spec (search needs) mul-result (search needs) add-result returns)

@@ -17,21 +17,18 @@ if-not false = refl
 returns : tie.Need-returns
 unfolding reading.statusByte
 returns c =
-    λ m regs windows sums building backup hs hb.
-    let k = c .before .before .before .before .before .before .before .before .before .before .args .k in
-    let alarm = c .before .before .before .before .either .ensures ∙ (λ i. c .before .before .before .before .before .before .before .before .before .is-holdover .ensures i || c .before .before .before .before .before .before .before .before .is-free-run .ensures i) in
-    let unlocked = ap (λ (b : Bool). if not b then 2 else 0) (c .before .before .before .before .before .before .before .is-locked .ensures) ∙ if-not (is locked (modeOf (k .pll .mode))) in
-    let ready = c .before .before .before .before .before .before .is-ready .ensures sums building backup hs in
-    let saved = c .before .before .before .before .before .holds-backup .ensures sums building backup hb in
+    let one = c .before .before .before .before in
+    let tested = one .before in
+    let start = tested .before .before .before in
+    let alarm = one .one-of .ensures ∙ (λ i. tested .before .before .is-holdover .ensures i || tested .before .is-free-run .ensures i) in
+    let unlocked = ap (λ (b : Bool). if not b then 2 else 0) (tested .is-locked .ensures) ∙ if-not (is locked (modeOf (start .args .mode))) in
     (λ i. c .before .before .before .weigh .ensures .0 i + c .before .before .weigh2 .ensures .0 i + c .before .weigh3 .ensures .0 i + c .weigh4 .ensures .0 i)
-    ∙ (λ i. (if alarm i then 1 else 0) + unlocked i + (if ready i then 4 else 0) + (if saved i then 8 else 0))
+    ∙ (λ i. (if alarm i then 1 else 0) + unlocked i + (if start .args .ready then 4 else 0) + (if start .args .held then 8 else 0))
 
 pub status-byte-spec : {M : Type 1} → statement M
 status-byte-spec =
     tie.close
     (tie.spec
-    (search needs)
-    (search needs)
     (search needs)
     (search needs)
     (search needs)
