@@ -13,13 +13,13 @@ use Rattle.rules.specs.Loading.{most, fits}
 use Rattle.rules.proofs.Tests.{by-test, not-true}
 use Rattle.rules.proofs.Tables.{at-index, all-pass, at-below}
 
--- the register at a place; past the map, one that is read only
+-- the register at a slot; past the map, one that is read only
 abbrev pub at : ℕ → Register
 at k = getD registers k (reads 0)
 
-own-place : (k : ℕ) → k < 27 → slot (at k .address) ≡ k
+own-slot : (k : ℕ) → k < 27 → slot (at k .address) ≡ k
 unfolding registers slot
-own-place k h = eqb-true (slot (at k .address)) k (at-below (λ j. eqb (slot (at j .address)) j) 27 refl k h)
+own-slot k h = eqb-true (slot (at k .address)) k (at-below (λ j. eqb (slot (at j .address)) j) 27 refl k h)
 
 -- no other slot has the command's address
 pub other-address : (k : ℕ) → (k ≡ 10 → ⊥) → eqb (at k .address) 0x26 ≡ false
@@ -32,7 +32,7 @@ other-address k ne =
 -- the test of one byte
 fits-at : (table : List ℕ) (k : ℕ) → k < 27 → fits table (at k) ≡ leb (getD table k 0) (most (at k))
 unfolding fits settingsFrom
-fits-at table k h = ap (λ (j : ℕ). leb (getD table j 0) (most (at k))) (own-place k h)
+fits-at table k h = ap (λ (j : ℕ). leb (getD table j 0) (most (at k))) (own-slot k h)
 
 -- a byte that is not too large passes it, and no other does
 pub fits-here : (table : List ℕ) (k : ℕ) → k < 27 → getD table k 0 ≤ most (at k) → fits table (at k) ≡ true

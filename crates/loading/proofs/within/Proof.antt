@@ -1,4 +1,4 @@
--- The loop's invariant: the bytes before place k fit.
+-- The loop's invariant: the bytes before slot k fit.
 use Prim.Native.Nat.{ℕ, _-_, _≤_, _<_}
 use mathlib.Core.Path.{_≡_, sym}
 use mathlib.Core.Bool.{true}
