@@ -1,2 +1,2 @@
 -- The proofs of the calls.
-pub mod Called
+pub mod Concerned

@@ -4,20 +4,20 @@ use mathlib.Core.Path.{_≡_, refl, ap, sym, _∙_}
 use native.Mathlib.Omega.{arith}
 use lib.Dec.{eqb}
 use lib.ListN.{getD}
-use Rattle.rules.specs.Words.{if_then_else_}
 use Rattle.rules.specs.Events.{assignBucket}
-use Rattle.rules.specs.Monitors.{Bucket, atSize}
+use Rattle.rules.specs.State.{withInputs, withBuckets}
+use Rattle.rules.specs.Monitors.{Bucket}
 use Rattle.rules.specs.Buckets.{putAtSize, setAt}
 use Rattle.rules.specs.Refusals.{refusal}
 use Rattle.rules.specs.Run.{afterAssign, effect}
 use Rattle.rules.specs.Inputs.{eachFrom}
 use Rattle.rules.proofs.SoundBuckets.{assign-allowed}
-use Rattle.buckets.specs.Bridge.{eight, bucketsOf}
-use Rattle.buckets.proofs.Sets.{set-at}
-use Rattle.inputs.specs.Bridge.{isSet, inputAt, inputsOf}
-use Rattle.unit.specs.Bridge.{partsOf}
-use Rattle.unit.proofs.Given.{turned-down}
-use Rattle.calls.proofs.Called.{called, set-if}
+use Rattle.buckets.specs.Bridge.{bucketsOf}
+use Rattle.buckets.proofs.Sets.{set-at, assigned-anew}
+use Rattle.inputs.specs.Bridge.{isSet, inputsOf}
+use Rattle.state.specs.Stored.{meaning, withRows, withSets}
+use Rattle.unit.proofs.Given.{accepted, turned-down}
+use Rattle.calls.proofs.Concerned.{concerned}
 use Rattle.calls.proofs.assign_bucket.Statement.{statement}
 use Rattle.calls.proofs.assign_bucket.Tie as tie
 
@@ -26,30 +26,30 @@ unfolding refusal effect afterAssign putAtSize eachFrom inputsOf
 returns c =
     let sets = c .before in
     let sized = sets .before in
-    let concerned = sized .before in
-    let tested = concerned .before .before .before in
+    let chosen = sized .before in
+    let tested = chosen .before .before .before in
     let numbered = tested .before in
     let a = numbered .before .args in
     let m = a .u .monitors in
-    let b = m .buckets in
+    let b = a .u .buckets in
     let number = numbered .assign-refusal .ensures in
     let ok = assign-allowed (a .i) (a .n) (sym number ∙ tested .if1 .taken) in
-    let put = c .put-at-size .ensures in
     let low : a .n % 4 ≡ a .n = omega (arith, ok .1) in
     let size = sized .size-of .ensures
     ∙ ap (λ (x : Bucket). x .size) (set-at b (a .n))
     ∙ ap (λ (n : ℕ). setAt (bucketsOf b) n .size) low in
-    called (a .u) (assignBucket (a .i) (a .n)) (c .put-at-size .result) _ _ (sym (tested .if1 .taken) ∙ number) refl
-    (put .0
-    ∙ (λ i. putAtSize (λ j. isSet (getD (concerned .at-input .ensures i) (j - 1) 0)) (size i) (inputsOf m))
-    ∙ (λ i. eight (λ k. let x = inputAt m k in if set-if (eqb (a .i) (k + 1)) i then atSize (setAt (bucketsOf b) (a .n) .size) x else x)))
-    (ap bucketsOf (put .1) ∙ sets .with-assigned .ensures (ok .0) (ok .1))
+    let put = c .put-at-size .ensures
+    ∙ (λ i. putAtSize (λ j. isSet (getD (chosen .at-input .ensures i) (j - 1) 0)) (size i) (inputsOf m))
+    ∙ concerned m (setAt (bucketsOf b) (a .n) .size) (λ k. eqb (a .i) (k + 1)) in
+    let anew = ap bucketsOf (sets .with-assigned .ensures) ∙ assigned-anew b (a .i) (a .n) (ok .0) (ok .1) in
+    accepted (a .u) (withSets (sets .with-assigned .result) (withRows (c .put-at-size .result) (a .u))) (assignBucket (a .i) (a .n))
+    (sym (tested .if1 .taken) ∙ number) refl (λ i. withBuckets (anew i) (withInputs (put i) (meaning (a .u))))
 
 returns-2 : tie.Need-returns-2
 unfolding refusal
 returns-2 c =
     let a = c .before .before .args in
-    turned-down (partsOf (a .u)) (assignBucket (a .i) (a .n)) (c .before .assign-refusal .ensures) (c .if1 .left)
+    turned-down (a .u) (assignBucket (a .i) (a .n)) (c .before .assign-refusal .ensures) (c .if1 .left)
 
 pub assign-bucket-spec : {M : Type 1} → statement M
 assign-bucket-spec = tie.close (tie.spec (λ c κs. tt) (λ c κs. tt) (λ c κs. tt) (λ c κs. tt) (λ c κs. tt) returns returns-2)

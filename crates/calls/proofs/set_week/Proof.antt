@@ -3,9 +3,8 @@ use mathlib.Core.Path.{refl, sym, _∙_}
 use Rattle.rules.specs.Events.{setWeek}
 use Rattle.rules.specs.Refusals.{refusal}
 use Rattle.rules.specs.Run.{effect}
-use Rattle.unit.specs.Bridge.{partsOf}
-use Rattle.unit.proofs.Given.{turned-down}
-use Rattle.calls.proofs.Called.{week-called}
+use Rattle.state.specs.Stored.{withPlace}
+use Rattle.unit.proofs.Given.{accepted, turned-down}
 use Rattle.calls.proofs.set_week.Statement.{statement}
 use Rattle.calls.proofs.set_week.Tie as tie
 
@@ -14,13 +13,13 @@ unfolding refusal effect
 returns c =
     let tested = c .before in
     let a = tested .before .before .args in
-    week-called (a .u) (setWeek (a .place)) (a .place) (a .u .week .windows) _ (sym (tested .if1 .taken) ∙ tested .before .week-refusal .ensures) refl refl
+    accepted (a .u) (withPlace (a .place) (a .u)) (setWeek (a .place)) (sym (tested .if1 .taken) ∙ tested .before .week-refusal .ensures) refl refl
 
 returns-2 : tie.Need-returns-2
 unfolding refusal
 returns-2 c =
     let a = c .before .before .args in
-    turned-down (partsOf (a .u)) (setWeek (a .place)) (c .before .week-refusal .ensures) (c .if1 .left)
+    turned-down (a .u) (setWeek (a .place)) (c .before .week-refusal .ensures) (c .if1 .left)
 
 pub set-week-spec : {M : Type 1} → statement M
 set-week-spec = tie.close (tie.spec (λ c κs. tt) returns returns-2)

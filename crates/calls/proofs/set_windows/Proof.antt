@@ -1,15 +1,16 @@
 -- Accepted with windows that pass the check, or turned down with 16.
-use mathlib.Core.Path.{_≡_, refl, sym, _∙_}
-use mathlib.Core.Bool.{true}
+use mathlib.Core.Path.{refl, ap, sym, _∙_}
 use borrow.Author.Tests.{eq-eqb}
 use Rattle.rules.specs.Events.{setWindows}
+use Rattle.rules.specs.State.{withWeek}
 use Rattle.rules.specs.Week.{windowsFit, firstWindows}
 use Rattle.rules.specs.Refusals.{windowsRefusal, refusal}
 use Rattle.rules.specs.Run.{effect}
 use Rattle.rules.proofs.Tests.{zero-if}
-use Rattle.unit.specs.Bridge.{partsOf}
-use Rattle.unit.proofs.Given.{turned-down}
-use Rattle.calls.proofs.Called.{week-called}
+use Rattle.week.specs.Bridge.{windowsOf}
+use Rattle.week.proofs.Storing.{stored-windows}
+use Rattle.state.specs.Stored.{meaning, withWindows}
+use Rattle.unit.proofs.Given.{accepted, turned-down}
 use Rattle.calls.proofs.set_windows.Statement.{statement}
 use Rattle.calls.proofs.set_windows.Tie as tie
 
@@ -17,19 +18,19 @@ returns : tie.Need-returns
 unfolding refusal effect windowsRefusal
 returns c =
     let tested = c .before in
-    let number = tested .before .windows-refusal .ensures in
     let a = tested .before .before .args in
     let windows = firstWindows (a .count) (a .windows .now) in
-    let none = sym (tested .if1 .taken) ∙ number in
+    let none = sym (tested .if1 .taken) ∙ tested .before .windows-refusal .ensures in
     let fit = zero-if (windowsFit windows) 15 (eq-eqb (windowsRefusal windows) 0 (sym none)) in
-    week-called (a .u) (setWindows windows) (a .u .week .place) (c .kept .result) _ none refl
-    (λ i. record { place = a .u .week .place; windows = c .kept .ensures fit i })
+    let stored = ap windowsOf (c .kept .ensures) ∙ stored-windows (a .count) (a .windows .now) fit in
+    accepted (a .u) (withWindows (c .kept .result) (a .u)) (setWindows windows) none refl
+    (λ i. withWeek (record { place = a .u .core .place; windows = stored i }) (meaning (a .u)))
 
 returns-2 : tie.Need-returns-2
 unfolding refusal
 returns-2 c =
     let a = c .before .before .args in
-    turned-down (partsOf (a .u)) (setWindows (firstWindows (a .count) (a .windows .now))) (c .before .windows-refusal .ensures) (c .if1 .left)
+    turned-down (a .u) (setWindows (firstWindows (a .count) (a .windows .now))) (c .before .windows-refusal .ensures) (c .if1 .left)
 
 pub set-windows-spec : {M : Type 1} → statement M
 set-windows-spec = tie.close (tie.spec (λ c κs. tt) (λ c κs. tt) returns returns-2)
