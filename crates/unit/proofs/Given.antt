@@ -4,7 +4,8 @@ use mathlib.Core.Path.{_≡_, refl, subst}
 use Rattle.rules.specs.Events.{Event}
 use Rattle.rules.specs.Refusals.{refusal}
 use Rattle.rules.specs.Run.{effect}
-use Rattle.unit.specs.Bridge.{Stored, meaning, Gives}
+use Rattle.state.specs.Stored.{Stored, meaning}
+use Rattle.unit.specs.Given.{Gives}
 use Rattle.unit.proofs.Outcomes.{accepted-outcome, refused-outcome}
 
 -- number 0, and the state after the effect
@@ -18,7 +19,3 @@ turned-down s e r z = record { rules = refused-outcome (meaning s) e r z; left =
 -- the same event
 pub same-event : {s t : Stored} {n : ℕ} {e f : Event} → e ≡ f → Gives s e n t → Gives s f n t
 same-event {s} {t} {n} p g = subst (λ (e : Event). Gives s e n t) p g
-
--- the same is stored before
-pub same-start : {s r t : Stored} {e : Event} {n : ℕ} → s ≡ r → Gives s e n t → Gives r e n t
-same-start {t = t} {e = e} {n = n} p g = subst (λ (s : Stored). Gives s e n t) p g

@@ -2,3 +2,4 @@
 pub mod Outcomes
 pub mod Given
 pub mod Range
+pub mod Followed

@@ -7,6 +7,7 @@ ghost use Prim.Native.Nat.{_*_};
 ghost use lib.Dec.{leb, eqb};
 ghost use lib.IntN.{natAbs};
 ghost use Rattle.rules.specs.Registers.{inMap, written, settingsFrom};
+ghost use Rattle.rules.specs.Settings.{delay, delayTicks};
 ghost use Rattle.rules.specs.Words.{if_then_else_};
 ghost use Rattle.rules.specs.Events as events;
 ghost use Rattle.rules.specs.Events.{halfPpm, sampleLimit};
@@ -189,6 +190,16 @@ fn write_accepted(
     t
 }
 
+// The delay that is handed on after a write at a: looked up anew if that is 0x43.
+fn delay_after(a: u8, regs: &Registers, handed: u32) -> u32
+    ensures { λ r. ⌜ r ≡ (if eqb a 0x43 then delayTicks (delay (settingsFrom (now (regs .entry)))) else handed) ⌝ }
+{
+    if a == 0x43 {
+        return waits::delay_ticks(registers::setting(regs, 0x43));
+    }
+    handed
+}
+
 // The rule `outcome` of a write: accepted, or the first of refusals 1, 2, 3, 4 and 8 that fits. The keys are made anew, and by a write of 0x43 the delay.
 pub fn write(
     a: u8,
@@ -215,9 +226,7 @@ pub fn write(
         let t = write_accepted(a, v, k.tally, regs, sums, building, backup);
         let made = candidates::keys_of(regs);
         *keys = made;
-        if a == 0x43 {
-            *handed = waits::delay_ticks(registers::setting(regs, 0x43));
-        }
+        *handed = delay_after(a, regs, *handed);
         let mut next = k;
         next.tally = t;
         return Stepped {
