@@ -1,7 +1,6 @@
 // The calls of the host's that are no events of a run sheet (document 02, #104: setting and assigning a set of bucket numbers; #107: setting the place in the
 // week, and the windows): a number, and the whole unit after it. A refusal leaves every stored number as it was.
 // Each contract is an equation with the rule `outcome` through crates/state/specs/Stored.antt.
-ghost use mathlib.Core.Path.{_≡_};
 ghost use Rattle.rules.specs.Events.{setBucket, assignBucket, setWeek, setWindows};
 ghost use Rattle.rules.specs.Week.{firstWindows};
 ghost use Rattle.unit.specs.Given.{Gives};

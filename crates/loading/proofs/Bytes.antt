@@ -1,12 +1,12 @@
 -- A table byte by byte: byte k is that of the map's register at slot k, and the command stands at slot 10.
-use Prim.Native.Nat.{ℕ, _+_, _≤_, _<_}
-use mathlib.Core.Path.{_≡_, refl, ap, sym}
+use Prim.Native.Nat.{ℕ, _≤_, _<_}
+use mathlib.Core.Path.{_≡_, refl, ap}
 use mathlib.Core.Bool.{true, false, not, _||_}
 use mathlib.Core.List.{List}
 use native.Mathlib.Omega.{arith}
 use lib.Dec.{leb, ltb, eqb}
 use lib.ListN.{getD, List·getD-eq-default}
-use borrow.Author.Tests.{eqb-true, eqb-false, ne-eqb, ltb-true, ltb-false, leb-true, le-leb}
+use borrow.Author.Tests.{eqb-true, ne-eqb, ltb-true, ltb-false, leb-true, le-leb}
 use Rattle.rules.specs.Words.{every}
 use Rattle.rules.specs.Registers.{Register, registers, reads, slot, settingsFrom}
 use Rattle.rules.specs.Loading.{most, fits}

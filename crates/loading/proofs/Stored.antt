@@ -1,5 +1,5 @@
 -- What is stored of a table's bytes, as settings by address.
-use Prim.Native.Nat.{ℕ, _%_, _+_, _≤_, _<_}
+use Prim.Native.Nat.{ℕ, _%_, _+_, _<_}
 use mathlib.Core.Path.{_≡_, refl, ap, _∙_}
 use mathlib.Core.List.{List}
 use native.Mathlib.Omega.{arith}
