@@ -3,7 +3,7 @@
 
 use crate::bench::*;
 use crate::calls::{accept_call, refuse_call};
-use model::{BucketSet, Call, Unit};
+use model::{BucketSet, Call, Input, Unit};
 
 fn set_call(set: u8, numbers: BucketSet) -> Call {
     Call::SetBucket { set, numbers }
@@ -67,9 +67,9 @@ fn the_bounds_of_a_set() {
     }
     for refused in [
         BucketSet::of(0, 0, 0, 0),
-        BucketSet::of(9, 10, 4, 1),
+        BucketSet::of(7, 8, 4, 1),
         BucketSet::of(254, 255, 0, 0),
-        BucketSet::of(10, 6, 6, 1),
+        BucketSet::of(8, 6, 6, 1),
         BucketSet::of(10, 6, 7, 1),
         BucketSet::of(255, 255, 255, 3),
         BucketSet::of(8, 6, 4, 4),
@@ -144,16 +144,30 @@ fn setting_starts_the_buckets_of_the_inputs_with_that_set() {
     assert_eq!(unit.inputs, before);
 }
 
-/// "even as it was"
+/// "even as it was", and "each input it concerns" alone: the others stay.
 #[test]
-fn setting_or_assigning_as_it_was_starts_the_buckets_too() {
-    let mut unit = automatic(&[1]);
-    set(&mut unit, 0, BucketSet::FRESH);
-    assert_eq!(started(&unit, 8), [1, 2, 3, 4, 5, 6, 7, 8]);
-    clean_ticks(&mut unit, 8);
-    assert_eq!(started(&unit, 8), []);
-    assign(&mut unit, 7, 0);
-    assert_eq!(started(&unit, 8), [7]);
+fn a_call_starts_the_buckets_it_concerns_alone() {
+    let largest = BucketSet::of(255, 1, 0, 3);
+    for (calls, level, concerned) in [
+        (&[set_call(0, BucketSet::FRESH)][..], 8, 1..=8),
+        (&[assign_call(2, 0)], 8, 2..=2),
+        (&[assign_call(2, 1), set_call(1, largest)], 255, 2..=2),
+    ] {
+        let mut unit = Unit::fresh();
+        clean_ticks(&mut unit, 1);
+        let mut expected = unit.inputs;
+        for input in concerned {
+            expected[input - 1] = Input {
+                level,
+                activity_alarm: true,
+                ..Input::fresh()
+            };
+        }
+        for &call in calls {
+            accept_call(&mut unit, call);
+        }
+        assert_eq!(unit.inputs, expected);
+    }
 }
 
 /// A set of a smaller size: the level is the new size, not the old level.
@@ -264,28 +278,25 @@ fn each_input_follows_its_own_set() {
 /// the soak is counted; with one level or one tick more it does not.
 #[test]
 fn the_soak_goes_on_where_one_clean_tick_clears_the_alarm() {
-    for (set_numbers, soak) in [
-        (BucketSet::of(5, 5, 4, 0), 41),
-        (BucketSet::of(255, 255, 254, 0), 41),
-        (BucketSet::of(6, 5, 4, 0), 0),
-        (BucketSet::of(5, 5, 4, 1), 0),
+    for (numbers, mask, goes_on) in [
+        (BucketSet::of(5, 5, 4, 0), 0x00, true),
+        (BucketSet::of(5, 5, 4, 0), 0x01, false),
+        (BucketSet::of(255, 255, 254, 0), 0x00, true),
+        (BucketSet::of(6, 5, 4, 0), 0x00, false),
+        (BucketSet::of(5, 5, 4, 1), 0x00, false),
+        (BucketSet::of(1, 1, 0, 0), 0x00, true),
+        (BucketSet::of(2, 1, 0, 0), 0x00, false),
     ] {
-        let mut unit = Unit::fresh();
-        set(&mut unit, 1, set_numbers);
-        measure(&mut unit, 1, 0);
-        clean_ticks(&mut unit, 40);
-        assign(&mut unit, 1, 1);
-        assert_eq!(unit.input(1).soak, 40);
-        clean_ticks(&mut unit, 1);
-        assert_eq!(unit.input(1).soak, soak);
+        for (soak, after) in [(40, 41), (79, 79)] {
+            let mut unit = Unit::fresh();
+            measure(&mut unit, 1, 0);
+            clean_ticks(&mut unit, soak.into());
+            set(&mut unit, 0, numbers);
+            assert_eq!(unit.input(1).soak, soak);
+            masked_ticks(&mut unit, 1, mask);
+            assert_eq!(unit.input(1).soak, if goes_on { after } else { 0 });
+        }
     }
-    let mut unit = Unit::fresh();
-    set(&mut unit, 1, BucketSet::of(5, 5, 4, 0));
-    measure(&mut unit, 1, 0);
-    clean_ticks(&mut unit, 40);
-    assign(&mut unit, 1, 1);
-    masked_ticks(&mut unit, 1, 0x01);
-    assert_eq!(unit.input(1).soak, 0);
 }
 
 /// "The promise of service then has 78 + the larger of 782 and (S − L) times
