@@ -180,18 +180,22 @@ fn what_replaced_goes_on_filling_up_to_64() {
     assert_eq!(unit.history.building, None);
 }
 
-/// Blocks that are not enough for Ready stay in use too, and are replaced.
+/// Blocks that are not enough for Ready stay in use too, as 64 do, and are
+/// replaced.
 #[test]
-fn kept_blocks_that_are_not_ready_wait_as_well() {
-    let mut unit = ready_unit();
-    write(&mut unit, 0x26, 3);
-    fill(&mut unit, 5, 7);
-    switch_to(&mut unit, 2);
-    fill(&mut unit, 42, 9);
-    assert_eq!(unit.history.kept, blocks(5, 7));
-    assert!(!unit.ready());
-    fill(&mut unit, 1, 9);
-    assert_eq!(unit.history.kept, blocks(43, 9));
+fn few_or_all_kept_blocks_wait_as_well() {
+    for (kept, ready) in [(5, false), (64, true)] {
+        let mut unit = ready_unit();
+        write(&mut unit, 0x26, 3);
+        fill(&mut unit, kept, 7);
+        switch_to(&mut unit, 2);
+        fill(&mut unit, 42, 9);
+        assert_eq!(unit.history.kept, blocks(kept as usize, 7));
+        assert_eq!(unit.ready(), ready);
+        fill(&mut unit, 1, 9);
+        assert_eq!(unit.history.kept, blocks(43, 9));
+        assert!(!unit.history.builds());
+    }
 }
 
 /// "A switch under policy 1 leaves whichever history is filling as it is."
@@ -208,14 +212,14 @@ fn a_switch_under_policy_1_leaves_the_kept_blocks_filling() {
 
 #[test]
 fn a_switch_under_policy_1_leaves_the_building_history_filling() {
-    let mut unit = building_unit(20);
-    write(&mut unit, 0x25, 1);
-    switch_to(&mut unit, 3);
-    assert_building(&unit, 20);
-    fill(&mut unit, 22, 9);
-    assert_building(&unit, 42);
-    fill(&mut unit, 1, 9);
-    assert_eq!(unit.history.kept, blocks(43, 9));
+    for built in [20, 42] {
+        let mut unit = building_unit(built);
+        write(&mut unit, 0x25, 1);
+        switch_to(&mut unit, 3);
+        assert_building(&unit, built as usize);
+        fill(&mut unit, 43 - built, 9);
+        assert_eq!(unit.history.kept, blocks(43, 9));
+    }
 }
 
 #[test]
@@ -232,7 +236,7 @@ fn writing_the_policy_changes_no_history() {
 /// "Command 1 saves the blocks in use"
 #[test]
 fn command_1_saves_the_blocks_in_use_while_another_history_builds() {
-    let mut unit = building_unit(20);
+    let mut unit = building_unit(42);
     lock_ticks(&mut unit, 5, 9);
     let mut expected = unit.history.clone();
     expected.backup = Some(blocks(43, 7));
