@@ -134,20 +134,17 @@ fn the_records_are_a_fresh_units() {
 /// Decimal index and refusal, lower-case hexadecimal bytes of two digits.
 #[test]
 fn the_printed_fields() {
-    let mut events: Vec<Event> = (1..=8)
-        .map(|input| Event::Measurement { input, offset: 0 })
-        .collect();
-    events.extend([CLEAN_TICK; 79]);
-    events.push(write_event(0x42, 0));
-    events.push(CLEAN_TICK);
-    let text = printed(&sheet_of(&[(0x40, 1), (0x24, 0x10)], &events));
+    let measured = [1, 2, 3, 4, 6, 8].map(|input| Event::Measurement { input, offset: 0 });
+    let events = [&measured[..], &[CLEAN_TICK; 97]].concat();
+    let settings = [(0x40, 1), (0x24, 0x10), (0x42, 0)];
+    let text = printed(&sheet_of(&settings, &events));
     let lines: Vec<&str> = text.lines().collect();
-    assert_eq!(lines[0], "records 91");
+    assert_eq!(lines[0], "records 106");
     assert_eq!(lines[1], "0 0 00 00 03");
     assert_eq!(lines[11], "10 0 09 00 03");
-    assert_eq!(lines[90], "89 0 09 ff 03");
-    assert_eq!(text.matches('\n').count(), 92);
-    assert!(text.ends_with("90 0 09 ff 03\n"));
+    assert_eq!(lines[88], "87 0 09 af 03");
+    assert_eq!(text.matches('\n').count(), 107);
+    assert!(text.ends_with("105 0 09 af 03\n"));
 }
 
 /// The event's word is signed, its low byte first; the mean of 43 blocks is

@@ -111,7 +111,7 @@ fn each_byte_is_its_registers_fresh_value() {
         (0x25, 1),
         (0x40, 1),
         (0x41, 9),
-        (0x42, 10),
+        (0x42, 0xf9),
         (0x43, 11),
         (0x44, 21),
         (0x45, 15),

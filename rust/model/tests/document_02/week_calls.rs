@@ -58,7 +58,7 @@ fn the_bounds_of_a_window() {
             (5, 5),
             (6, 5),
             (WEEK, WEEK),
-            (1, WEEK + 1),
+            (5, WEEK + 1),
             (WEEK - 1, WEEK + 1),
             (WEEK, WEEK + 1),
             (1, u32::MAX),
