@@ -55,8 +55,8 @@ fn run_settings(
     out: &mut [u8],
 ) -> Core
     requires { ⌜ (2 * n ≤ length (now part)) × (4 * n ≤ length (now out)) × Follows (settingsFrom (now regs)) (now keys) (now handed) ⌝ }
-    ensures { λ r. ⌜ ((s : Stored) → s .monitors .soak ≡ now (soak .entry) → meaning (withCore r (leaving regs sums building backup s)) ≡ rules.run (meaning (withCore start (entering regs sums building backup s))) (settingsOf n (now (part .entry)))) ⌝ }
-    ensures { λ _. ⌜ ((s : Stored) → s .monitors .soak ≡ now (soak .entry) → now (out .exit) ≡ over (records (meaning (withCore start (entering regs sums building backup s))) (settingsOf n (now (part .entry)))) (now (out .entry))) ⌝ }
+    ensures { λ r. ⌜ ((s : Stored) → meaning (withCore r (withSoak (now (soak .entry)) (leaving regs sums building backup s))) ≡ rules.run (meaning (withCore start (withSoak (now (soak .entry)) (entering regs sums building backup s)))) (settingsOf n (now (part .entry)))) ⌝ }
+    ensures { λ _. ⌜ ((s : Stored) → now (out .exit) ≡ over (records (meaning (withCore start (withSoak (now (soak .entry)) (entering regs sums building backup s)))) (settingsOf n (now (part .entry)))) (now (out .entry))) ⌝ }
     ensures { λ _. ⌜ Follows (settingsFrom (now (regs .exit))) (now (keys .exit)) (now (handed .exit)) ⌝ }
 {
     let mut k = start;

@@ -1,6 +1,6 @@
 -- A refused sheet writes nothing; else the settings' records are written at the front, and the events' behind them.
 use Prim.Native.Nat.{ℕ, _+_, _*_, _≤_}
-use mathlib.Core.Path.{_≡_, ap, sym, _∙_}
+use mathlib.Core.Path.{_≡_, refl, ap, sym, _∙_}
 use mathlib.Core.List.{List}
 use native.Mathlib.Omega.{arith}
 use lib.ListN.{length, length-drop}
@@ -9,8 +9,7 @@ use Rattle.rules.specs.Sheet.{settingsCount, eventsAt, eventsCount, sheetEnd, r
 use Rattle.rules.proofs.Sheets.{outputs}
 use Rattle.sheet.proofs.Numbers.{runs}
 use Rattle.rules.proofs.Parts.{part-all}
-use Rattle.tick.specs.Bridge.{stateOf}
-use Rattle.tick.specs.declared.Core.{Core}
+use Rattle.waits.specs.Handed.{ticksOf}
 use Rattle.run.proofs.Ran.{refused, all-written}
 use Rattle.run.proofs.run_into.Statement.{statement}
 use denote.Ref.{now}
@@ -50,22 +49,23 @@ returns c =
 
 -- what the settings' run found and left
 abbrev counted : tie.After-run-settings → tie.After-counts-of
-counted c = c .before .before .before .before .before .before .before .before .before .before .before .before .before .before .before .before .before .before .before .before .before
+counted c = c .before .before .before .before .before .before .before .before .before .before .before .before .before .before .before .before .before .before .before .before
 
 sub-run-settings : tie.Need-sub-run-settings
-sub-run-settings c = omega (arith, sizes (c .before .before .before .before .before .before .before .before .before .before .before) .whole)
+sub-run-settings c = omega (arith, sizes (c .before .before .before .before .before .before .before .before .before .before) .whole)
 
 part-run-settings-start : tie.Need-part-run-settings-start
-part-run-settings-start c = omega (arith, sizes (c .before .before .before .before .before .before .before .before .before .before .before) .whole)
+part-run-settings-start c = omega (arith, sizes (c .before .before .before .before .before .before .before .before .before .before) .whole)
 
 run-settings-requires : tie.Need-run-settings-requires
+unfolding ticksOf
 run-settings-requires c κs =
     let keyed = c .before .before .before .before .before .before .before .before .before .before in
-    let begun = keyed .before .before .before .before .before .before .before .before .before .before in
+    let begun = keyed .before .before .before .before .before .before .before .before .before in
     let z = sizes begun in (
       rw part-all (omega (arith, z .whole, length-drop 2 (now (begun .before .before .before .before .before .args .sheet)))),
       omega (arith, z .room-for),
-      keyed .keys-of .ensures,
+      record { keyed = keyed .keys-of .ensures; delayed = refl },
     )
 
 sub-run-events : tie.Need-sub-run-events
@@ -75,10 +75,10 @@ part-run-events-start : tie.Need-part-run-events-start
 part-run-events-start c = omega (arith, sizes (counted (c .before .before)) .whole)
 
 sub-run-events-2 : tie.Need-sub-run-events-2
-sub-run-events-2 c = let s = c .before .before .before .before .before .before .before .before .before in omega (arith, sizes (counted s) .room-for, s .run-settings .kept .1 .1 .1 .1 .1 .1 .1 .1 .1 .0)
+sub-run-events-2 c = let s = c .before .before .before .before .before .before .before .before .before in omega (arith, sizes (counted s) .room-for, s .run-settings .kept .1 .1 .1 .1 .1 .1 .1 .1 .1 .1 .0)
 
 part-run-events-start-2 : tie.Need-part-run-events-start-2
-part-run-events-start-2 c = let s = c .before .before .before .before .before .before .before .before .before in omega (arith, sizes (counted s) .room-for, s .run-settings .kept .1 .1 .1 .1 .1 .1 .1 .1 .1 .0)
+part-run-events-start-2 c = let s = c .before .before .before .before .before .before .before .before .before in omega (arith, sizes (counted s) .room-for, s .run-settings .kept .1 .1 .1 .1 .1 .1 .1 .1 .1 .1 .0)
 
 run-events-requires : tie.Need-run-events-requires
 run-events-requires c κs =
@@ -88,7 +88,7 @@ run-events-requires c κs =
     let n = begun .counts-of .result .settings in
     let z = sizes begun in (
       rw part-all (omega (arith, z .whole, length-drop (2 + 2 * n + 2) (now (begun .before .before .before .before .before .args .sheet)))),
-      rw part-all (omega (arith, z .room-for, length-drop (4 * n) (settled .last .1 .1 .1 .1 .1 .1 .1 .1 .1 .0), settled .kept .1 .1 .1 .1 .1 .1 .1 .1 .1 .0)),
+      rw part-all (omega (arith, z .room-for, length-drop (4 * n) (settled .last .1 .1 .1 .1 .1 .1 .1 .1 .1 .1 .0), settled .kept .1 .1 .1 .1 .1 .1 .1 .1 .1 .1 .0)),
       settled .ensures .1 .1,
     )
 
@@ -105,15 +105,14 @@ returns-2 c =
     let s = c .before .before .before .before .before .before .before .before .before .before .before .before .before in
     let settled = s .run-settings in
     let begun = counted s in
-    let u = s .before .before .before .before .before .before .before .before .before .before .before .before .before .before .before .before .before .before .before .before .fresh in
+    let u = s .before .before .before .before .before .before .before .before .before .before .before .before .before .before .before .before .before .before .before .fresh in
     let made = u .result in
     let n = counts begun in
     let a = begun .before .before .before .before .before .args in
-    let z = zero (begun .before) in
-    let fresh = ap (λ (k : Core). stateOf k (made .monitors) (made .regs) (made .week .windows) (made .history .sums) (made .history .building) (made .history .backup)) (s .before .before .before .before .before .before .before .before .core-of .ensures) ∙ u .ensures in (
+    let z = zero (begun .before) in (
       omega (arith, outputs (now (a .sheet)) (now (a .out)) z .written, n .0, n .1),
-      all-written (now (a .sheet)) (now (a .out)) (settled .last .1 .1 .1 .1 .1 .1 .1 .1 .1 .0) (ran .last .1 .1 .1 .1 .1 .1 .1 .1 .1 .1 .0) _ _ _ _ z (n .0) (n .1)
-          fresh (settled .ensures .0 (made .monitors) (made .week .windows)) (settled .ensures .1 .0 (made .monitors) (made .week .windows)) (ran .ensures),
+      all-written (now (a .sheet)) (now (a .out)) (settled .last .1 .1 .1 .1 .1 .1 .1 .1 .1 .1 .0) (ran .last .1 .1 .1 .1 .1 .1 .1 .1 .1 .1 .0) _ _ _ _ z (n .0) (n .1)
+          (u .ensures) (settled .ensures .0 made) (settled .ensures .1 .0 made) (ran .ensures),
     )
 
 pub run-into-spec : {M : Type 1} → statement M
@@ -127,7 +126,6 @@ run-into-spec =
     (search needs)
     sub-run-settings
     part-run-settings-start
-    (search needs)
     (search needs)
     run-settings-requires
     (λ c. omega (arith, counted (c .before .before) .counts-of .ensures .1 .0))
