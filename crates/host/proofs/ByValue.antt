@@ -21,9 +21,9 @@ use denote.Triple.End.{all}
 use denote.Triple.Spec.{tripleOf}
 use denote.Triple.Clauses.{Ended, Clauses, closing, lasts}
 use denote.Exit.{yes}
-use Rattle.unit.specs.declared.Unit.{Unit as State}
-use Rattle.unit.proofs.Unit as T
-use Rattle.unit.proofs.Unit.Laws as T′
+use Rattle.state.specs.declared.Unit.{Unit as State}
+use Rattle.state.proofs.Unit as T
+use Rattle.state.proofs.Unit.Laws as T′
 use Rattle.host.proofs.Thin.{valT, Call}
 use Rattle.host.proofs.Params.{Param, lifetimes, Data, values, Picks, slots, Types, data-of, args-of, data-args, lists, in-a-row, Owned, Had, handed-on}
 

@@ -1,5 +1,4 @@
 -- The calls of a host, one by one and as whole histories.
-pub mod Arrays
 pub mod ByValue
 pub mod Calls
 pub mod Params

@@ -19,51 +19,37 @@ use Rattle.rules.proofs.Comparison.{never-less-ready}
 use Rattle.rules.proofs.FinerReadings.{finer-readings}
 use Rattle.rules.proofs.Standing.{ends-by-command-3}
 use Rattle.history.proofs.Kept.{ready-kept}
-use Rattle.unit.specs.Bridge.{modelOf}
-use Rattle.unit.specs.declared.Unit.{Unit as Stored}
+use Rattle.state.specs.Stored.{Stored, meaning}
+use Rattle.unit.specs.Given.{Leads}
 use Rattle.loading.proofs.Checks.{loaded}
-use Rattle.host.specs.Lent.{Places, given, Leads, wordOf}
+use Rattle.host.specs.Lent.{given, wordOf}
 use Rattle.host.specs.Service.{Call, ofEvent, ofSet, ofAssign, ofWeek, ofWindows, ofLoad, decoded, with, eventsOf, Answers, Lent, Begins, Holds, ownReady, Agreement, UnitServed, UnitPromise, UnitPromiseInFigures, UnitPromiseWithoutWindows, UnitPromiseAtStart, UnitNeverLessReady, UnitEndsByCommand3, UnitAsBefore}
 
 -- one call: the rules go on from the state that it left
-led-on : (u w : Stored) (d : Decoded) (n : ℕ) (es : List Event) → Leads u (given d) n w → run (modelOf u) (with d es) ≡ run (modelOf w) es
+led-on : (u w : Stored) (d : Decoded) (n : ℕ) (es : List Event) → Leads u (given d) n w → run (meaning u) (with d es) ≡ run (meaning w) es
 unfolding with run outcome
 led-on u w (event e) n es l = ap (λ (s : rules.Outcome). run (s .state) es) (sym (l .rules))
 led-on u w bad n es l = ap (λ (s : rules.Outcome). run (s .state) es) (sym (l .rules))
 
-goes-on : (u w : Stored) (c : Call) (n : ℕ) (es : List Event) → Answers u c n w → run (modelOf u) (with (decoded c) es) ≡ run (modelOf w) es
+goes-on : (u w : Stored) (c : Call) (n : ℕ) (es : List Event) → Answers u c n w → run (meaning u) (with (decoded c) es) ≡ run (meaning w) es
 unfolding with
 goes-on u w (ofEvent kind a b word) n es l = led-on u w (decoded (ofEvent kind a b word)) n es l
 goes-on u w (ofSet set size setLevel clearLevel d) n es l = led-on u w (decoded (ofSet set size setLevel clearLevel d)) n es l
 goes-on u w (ofAssign input set) n es l = led-on u w (decoded (ofAssign input set)) n es l
 goes-on u w (ofWeek place) n es l = led-on u w (decoded (ofWeek place)) n es l
 goes-on u w (ofWindows count numbers) n es l = led-on u w (decoded (ofWindows count numbers)) n es l
-goes-on u w (ofLoad table) n es (some, l) = ap (λ (x : Stored). run (modelOf x) es) (sym (l .left some))
-
--- and the sums have their places
-places-on : (u w : Stored) (c : Call) (n : ℕ) → Answers u c n w → Places w
-places-on u w (ofEvent kind a b word) n l = l .places
-places-on u w (ofSet set size setLevel clearLevel d) n l = l .places
-places-on u w (ofAssign input set) n l = l .places
-places-on u w (ofWeek place) n l = l .places
-places-on u w (ofWindows count numbers) n l = l .places
-places-on u w (ofLoad table) n (some, l) = l .places
+goes-on u w (ofLoad table) n es (some, l) = ap (λ (x : Stored). run (meaning x) es) (sym (l .left some))
 
 -- a list of calls
-lent-run : (cs : List Call) (u v : Stored) → Lent u cs v → run (modelOf u) (eventsOf cs) ≡ modelOf v
+lent-run : (cs : List Call) (u v : Stored) → Lent u cs v → run (meaning u) (eventsOf cs) ≡ meaning v
 unfolding eventsOf run
-lent-run [] u v e = ap modelOf e
+lent-run [] u v e = ap meaning e
 lent-run (c ∷ cs) u v (w, (n, (l, more))) = goes-on u w c n (eventsOf cs) l ∙ lent-run cs w v more
-
-lent-places : (cs : List Call) (u v : Stored) → Lent u cs v → Places u → Places v
-lent-places [] u v e p = rw (← e) p
-lent-places (c ∷ cs) u v (w, (n, (l, more))) p = lent-places cs w v more (places-on u w c n l)
 
 -- a unit that begins a history
 record Begun (start : State) (u : Stored) : Type 0 where
   pub is-fresh : Fresh start
-  pub state-is : modelOf u ≡ start
-  pub places : Places u
+  pub state-is : meaning u ≡ start
 
 -- by a load that returned 0
 by-load : (table : List ℕ) (start : State) (before u : Stored) → start ≡ freshFrom table → Leads before (loading table) 0 u → Begun start u
@@ -73,26 +59,22 @@ by-load table start before u e l =
     record {
       is-fresh = record { table = table; loaded = ok; made = sym e };
       state-is = ap (λ (o : rules.Outcome). o .state) (l .rules) ∙ rw ok (sym e);
-      places = l .places;
     }
 
 begun : (start : State) (u : Stored) → Begins start u → Begun start u
-begun start u (inl (e, made)) = record { is-fresh = rw e (standard .is-fresh); state-is = made .rules ∙ sym e; places = made .places }
+begun start u (inl (e, made)) = record { is-fresh = rw e (standard .is-fresh); state-is = made ∙ sym e }
 begun start u (inr (table, (e, (before, l)))) = by-load table start before u e l
 
 -- what the host holds
 held-fresh : (start : State) (es : List Event) (u : Stored) → Holds start es u → Fresh start
 held-fresh start es u h = begun start (h .first) (h .begun) .is-fresh
 
-held-state : (start : State) (es : List Event) (u : Stored) → Holds start es u → modelOf u ≡ run start es
+held-state : (start : State) (es : List Event) (u : Stored) → Holds start es u → meaning u ≡ run start es
 held-state start es u h = sym (lent-run (h .calls) (h .first) u (h .lent)) ∙ rw (begun start (h .first) (h .begun) .state-is, h .events) refl
 
-held-places : (start : State) (es : List Event) (u : Stored) → Holds start es u → Places u
-held-places start es u h = lent-places (h .calls) (h .first) u (h .lent) (begun start (h .first) (h .begun) .places)
-
-own-ready : (u : Stored) → Places u → ownReady u ≡ Ready (modelOf u)
+own-ready : (u : Stored) → ownReady u ≡ Ready (meaning u)
 unfolding ready
-own-ready u p = ready-kept (u .history .sums) (u .history .tally .count) p
+own-ready u = ready-kept (u .sums) (u .core .tally .count)
 
 -- DEMAND 2 OF THE UNIT
 pub agreement : Agreement
@@ -101,7 +83,7 @@ agreement start es u h =
     record {
       state = is;
       selected-is = ap selected is;
-      ready-is = own-ready u (held-places start es u h) ∙ ap Ready is;
+      ready-is = own-ready u ∙ ap Ready is;
       register = λ address n shown. shown ∙ ap (λ (s : State). wordOf (read s address)) is;
     }
 

@@ -35,10 +35,10 @@ use denote.Triple.Walked.{says, Stays, stay-ref, walkOf, AllGo, goes-ref, Walks,
 use denote.Exit.{yes}
 use Rattle.rules.specs.State as rules
 use Rattle.rules.specs.Run as rules′
-use Rattle.host.specs.Lent.{Leads}
-use Rattle.unit.specs.declared.Unit.{Unit as State}
+use Rattle.unit.specs.Given.{Leads}
+use Rattle.state.specs.declared.Unit.{Unit as State}
 use Rattle.unit.specs.declared.Outcome.{Outcome}
-use Rattle.unit.proofs.Unit as T
+use Rattle.state.proofs.Unit as T
 use Rattle.unit.proofs.Outcome as S
 use Rattle.host.proofs.Thin.{thin}
 use Rattle.host.proofs.Params.{Param, lifetimes, Data, values, tys, Picks, slots, stays, all-go, Types, spells, all-tell, none, none-fit, data-of, lists, in-a-row, are-typed, Owned, Had}

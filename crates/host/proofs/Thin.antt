@@ -29,9 +29,9 @@ use denote.Triple.Spec.{tripleOf}
 use denote.Triple.Clauses.{Ended, Clauses, closing}
 use denote.Triple.Table.{entered, cited}
 use denote.Triple.Walked.{Stays, AllGo, Walks, walk-meets}
-use Rattle.unit.specs.declared.Unit.{Unit as State}
-use Rattle.unit.proofs.Unit as T
-use Rattle.unit.proofs.Unit.Laws as T′
+use Rattle.state.specs.declared.Unit.{Unit as State}
+use Rattle.state.proofs.Unit as T
+use Rattle.state.proofs.Unit.Laws as T′
 
 pub thin : {M : Type 1} (𝓤 : URA M) (H : Heap 𝓤) (𝓜 : Model 𝓤 H) (𝓖 : GhostRules 𝓤 H) (𝓡 : Running 𝓤 H 𝓜) (γ : Env)
     (T : Ended) (hs : Stays (T .signature .params) (T .kept)) (c : Clauses 𝓤 T) (function : Fn) (self callee : Name) (r : Routine) (known : Contract 𝓤)

@@ -29,10 +29,10 @@ use denote.Ref.{MutRef}
 use denote.Steps.{only, opens, closes, owned}
 use denote.Struct.Laws as LL
 use denote.Triple.Statement.{Contract, Triple}
-use Rattle.unit.specs.declared.Unit.{Unit as State}
+use Rattle.state.specs.declared.Unit.{Unit as State}
 use Rattle.unit.specs.declared.Outcome.{Outcome}
-use Rattle.unit.proofs.Unit as T
-use Rattle.unit.proofs.Unit.Laws as T′
+use Rattle.state.proofs.Unit as T
+use Rattle.state.proofs.Unit.Laws as T′
 use Rattle.unit.proofs.Outcome as S
 use Rattle.unit.proofs.Outcome.Laws as S′
 use Rattle.host.proofs.Thin.{valT, Call, unit-spelt, calls-by}

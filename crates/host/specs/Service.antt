@@ -23,9 +23,9 @@ use Rattle.rules.specs.Sheet.{Decoded, event, bad, fields}
 use Rattle.rules.specs.Laws.{LeastDelay}
 use Rattle.rules.specs.FinerReadings.{finer}
 use Rattle.rules.specs.Service.{Provisos, selectedTicks, readyTicks, acceptedTicks}
-use Rattle.unit.specs.Bridge.{modelOf}
-use Rattle.unit.specs.declared.Unit.{Unit as Stored}
-use Rattle.host.specs.Lent.{Made, given, Leads, wordOf, Shows}
+use Rattle.state.specs.Stored.{Stored, meaning}
+use Rattle.unit.specs.Given.{Leads}
+use Rattle.host.specs.Lent.{Made, given, wordOf, Shows}
 
 -- ---- the host
 
@@ -95,17 +95,17 @@ pub record Holds (start : State) (es : List Event) (v : Stored) : Type 0 where
 
 -- "the unit's own selected and Ready": the selected number in its choice; 43 blocks or more in use by its tally
 abbrev pub ownSelected : Stored → ℕ
-ownSelected u = u .choice .selected
+ownSelected u = u .core .choice .selected
 
 abbrev pub ownReady : Stored → Bool
-ownReady u = leb readyBlocks (u .history .tally .count)
+ownReady u = leb readyBlocks (u .core .tally .count)
 
 -- ---- demand 2
 
 -- After every list of events from a fresh unit its state and each register agree with the rules; "the unit's own selected and Ready equal them". #102:
 -- "Agreement with the rules means these rules from now on."
 pub record Agrees (start : State) (es : List Event) (u : Stored) : Type 0 where
-  pub state : modelOf u ≡ run start es
+  pub state : meaning u ≡ run start es
   pub selected-is : ownSelected u ≡ selected (run start es)
   pub ready-is : ownReady u ≡ Ready (run start es)
   -- at each of the 256 addresses, what the published read returns
@@ -192,4 +192,4 @@ abbrev pub UnitAsBefore : Type 0
 UnitAsBefore =
     (start : State) (es : List Event) (u : Stored)
     → Holds start (map finer es) u
-    → (modelOf u ≡ coarseRun start es) × ((address n : ℕ) → Shows u address n → n ≡ wordOf (read (coarseRun start es) address))
+    → (meaning u ≡ coarseRun start es) × ((address n : ℕ) → Shows u address n → n ≡ wordOf (read (coarseRun start es) address))

@@ -4,7 +4,6 @@ use borrow.Author.Needs.{needs}
 use Rattle.rules.specs.Sheet.{event, decodedNumber, fields}
 use Rattle.fields.specs.Bridge.{decodedOf}
 use Rattle.unit.specs.Events.{eventOf}
-use Rattle.host.proofs.Arrays.{places-of, places-after}
 use Rattle.host.proofs.Calls.{no-event, handled}
 use Rattle.host.proofs.event.Statement.{statement}
 use mir.Facts.{toZ-ofZ}
@@ -27,12 +26,10 @@ returns c =
     let a = s .args in
     let told = read .decode .ensures ∙ ap (fields (a .kind) (a .a) (a .b)) (toZ-ofZ (s .fits .word)) in
     no-event (a .u) (fields (a .kind) (a .a) (a .b) (a .word)) (sym (ap decodedOf (c .before .enum-told .given .1)) ∙ told)
-    (c .number-of .ensures ∙ ap decodedNumber told) (places-of (a .u) _ (s .good .0))
+    (c .number-of .ensures ∙ ap decodedNumber told)
 
 returns-2 : tie.Need-returns-2
-returns-2 c =
-    let h = c .handle in
-    handled _ _ _ (h .result) (known c) (h .ensures) (places-after (h .result) _ (h .ok))
+returns-2 c = handled _ _ _ _ (known c) (c .handle .ensures)
 
 pub event-spec : {M : Type 1} → statement M
 event-spec = tie.close (tie.spec (search needs) (search needs) (search needs) (search needs) returns (search needs) returns-2)

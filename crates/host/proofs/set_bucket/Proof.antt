@@ -1,14 +1,9 @@
--- The call by value, of a unit whose sums have their places.
-use mathlib.Core.Path.{refl}
-use Rattle.host.proofs.Arrays.{places-after}
-use Rattle.host.proofs.Calls.{handled}
+-- The call by value.
 use Rattle.host.proofs.set_bucket.Statement.{statement}
 use Rattle.host.proofs.set_bucket.Tie as tie
 
 returns : tie.Need-returns
-returns c =
-    let h = c .set-bucket in
-    handled _ _ _ (h .result) refl (h .ensures) (places-after (h .result) _ (h .ok))
+returns c = c .set-bucket .ensures
 
 pub set-bucket-spec : {M : Type 1} → statement M
 set-bucket-spec = tie.close (tie.spec (λ c κs. tt) returns)

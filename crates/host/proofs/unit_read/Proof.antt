@@ -34,9 +34,9 @@ use denote.Triple.Entry.{Args, onEntry}
 use denote.Triple.Walked.{says, Stays, stay-none-ref, walkOf, goes-none-ref, Walks, ends-at, walked}
 use denote.Exit.{yes}
 use Rattle.host.specs.Lent.{Shows}
-use Rattle.unit.specs.declared.Unit.{Unit as State}
-use Rattle.unit.proofs.Unit as T
-use Rattle.unit.proofs.Unit.Laws as T′
+use Rattle.state.specs.declared.Unit.{Unit as State}
+use Rattle.state.proofs.Unit as T
+use Rattle.state.proofs.Unit.Laws as T′
 use Rattle.host.proofs.Thin.{thin, valT, unit-spelt, calls-by}
 use Rattle.host.proofs.Params.{Param, unsigned, Data, values, tys, Picks, stays, all-go, Types, spells, all-tell, lists, are-typed, Had}
 use Rattle.host.proofs.ByValue as by-value
