@@ -1,36 +1,45 @@
--- What a tick is lent of a unit: as it lies when the call begins, and when it returns. The numbers go by value.
+-- What a tick is lent of a unit, as it lies when the call begins, and when it returns; and what it is handed beside that. The core goes by value.
 use Prim.Native.Nat.{ℕ}
+use mathlib.Core.Path.{_≡_}
 use mathlib.Core.List.{List}
 use lib.IntN.{ℤ}
 use denote.Ref.{RefT, now}
 use denote.Triple.Both.{Both}
+use Rattle.rules.specs.Registers.{settingsFrom}
+use Rattle.buckets.specs.Bridge.{numbers, numbersOf}
 use Rattle.inputs.specs.Bridge as rows
 use Rattle.inputs.specs.Bridge.{Row}
+use Rattle.selection.specs.Bridge.{Follows}
 use Rattle.state.specs.Stored.{Stored, withCore, withRows, withRegisters, withWindows, withSums, withBuilding}
 use Rattle.state.specs.declared.Core.{Core}
 
--- an array of sums that is lent for a change
+-- an array of sums that is lent
 abbrev pub Sums : Type 0
 Sums = Both (RefT (List ℤ)) (RefT (List ℤ))
 
--- a unit with what is lent, as the call begins: with core k; frequency alarms, registers and windows are lent for reading
-abbrev pub entering : Row → Row → Row → List ℕ → Row → Row → List ℕ → List ℕ → Sums → Sums → Core → Stored → Stored
+-- a unit with what is lent, as the call begins, and with core k
+abbrev pub entering : Row → Row → Row → Row → Row → Row → Row → Row → Sums → Sums → Core → Stored → Stored
 entering level decay activity frequency remainder soak regs windows sums building k s =
     withCore k
-    (withRows (rows.entering level decay activity frequency remainder soak)
-    (withRegisters regs (withWindows windows (withSums (now (sums .entry)) (withBuilding (now (building .entry)) s)))))
+    (withRows (rows.entering level decay activity (now (frequency .entry)) remainder soak)
+    (withRegisters (now (regs .entry)) (withWindows (now (windows .entry)) (withSums (now (sums .entry)) (withBuilding (now (building .entry)) s)))))
 
 -- and as it returns
-abbrev pub leaving : Row → Row → Row → List ℕ → Row → Row → List ℕ → List ℕ → Sums → Sums → Core → Stored → Stored
+abbrev pub leaving : Row → Row → Row → Row → Row → Row → Row → Row → Sums → Sums → Core → Stored → Stored
 leaving level decay activity frequency remainder soak regs windows sums building k s =
     withCore k
-    (withRows (rows.leaving level decay activity frequency remainder soak)
-    (withRegisters regs (withWindows windows (withSums (now (sums .exit)) (withBuilding (now (building .exit)) s)))))
+    (withRows (rows.leaving level decay activity (now (frequency .exit)) remainder soak)
+    (withRegisters (now (regs .exit)) (withWindows (now (windows .exit)) (withSums (now (sums .exit)) (withBuilding (now (building .exit)) s)))))
 
 -- what is said of both
 abbrev pub across :
-    Row → Row → Row → List ℕ → Row → Row → List ℕ → List ℕ → Sums → Sums
+    Row → Row → Row → Row → Row → Row → Row → Row → Sums → Sums
     → ((Core → Stored → Stored) → (Core → Stored → Stored) → Type 0) → Type 0
 across level decay activity frequency remainder soak regs windows sums building says =
     says (entering level decay activity frequency remainder soak regs windows sums building)
     (leaving level decay activity frequency remainder soak regs windows sums building)
+
+-- What is made once and handed to the ticks: the numbers of each input's set follow from the sets of unit s, the keys and the delay from the registers.
+pub record Handed (sizes highs lows lasts regs keys : Row) (delay : ℕ) (s : Stored) : Type 0 where
+  pub lanes : numbers (now (sizes .entry)) (now (highs .entry)) (now (lows .entry)) (now (lasts .entry)) ≡ numbersOf (s .buckets)
+  pub follows : Follows (settingsFrom (now (regs .entry))) (now (keys .entry)) delay

@@ -8,14 +8,11 @@ ghost use Rattle.rules.specs.Pll.{alarmDue};
 ghost use Rattle.rules.specs.Pll as pll;
 ghost use Rattle.rules.specs.Inputs.{altered};
 ghost use Rattle.rules.specs.Tick as rules;
-ghost use Rattle.rules.specs.Registers.{settingsFrom};
-ghost use Rattle.buckets.specs.Bridge.{numbers, numbersOf};
 ghost use Rattle.inputs.specs.Bridge.{inputsOf, withLockAlarms};
 ghost use Rattle.inputs.specs.declared.Monitors as stored;
 ghost use Rattle.pll.specs.Bridge.{loopOf};
-ghost use Rattle.selection.specs.Bridge.{Follows};
 ghost use Rattle.state.specs.Stored.{Stored, meaning};
-ghost use Rattle.tick.specs.Lent.{across};
+ghost use Rattle.tick.specs.Lent.{across, Handed};
 use arith::both;
 use arith::is_tracked;
 use buckets::Row;
@@ -71,7 +68,7 @@ pub fn tick(
     sums: &mut Sums,
     building: &mut Sums,
 ) -> Core
-    ensures { λ r. ⌜ across level decay activity (now (frequency .entry)) remainder soak (now (regs .entry)) (now (windows .entry)) sums building (λ before after. (s : Stored) → numbers (now (sizes .entry)) (now (highs .entry)) (now (lows .entry)) (now (lasts .entry)) ≡ numbersOf (s .buckets) → Follows (settingsFrom (now (regs .entry))) (now (keys .entry)) handed → meaning (after r s) ≡ rules.ticked (record { mask = mask; lock = lock; sample = x }) (meaning (before k s))) ⌝ }
+    ensures { λ r. ⌜ across level decay activity frequency remainder soak regs windows sums building (λ before after. (s : Stored) → Handed sizes highs lows lasts regs keys handed s → meaning (after r s) ≡ rules.ticked (record { mask = mask; lock = lock; sample = x }) (meaning (before k s))) ⌝ }
 {
     // steps 1 and 2
     monitor::watched(

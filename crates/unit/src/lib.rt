@@ -12,13 +12,12 @@ ghost use Rattle.rules.specs.Words.{if_then_else_};
 ghost use Rattle.rules.specs.Events as events;
 ghost use Rattle.rules.specs.Events.{halfPpm, sampleLimit};
 ghost use Rattle.rules.specs.Run.{afterWrite};
-ghost use Rattle.buckets.specs.Bridge.{numbers, numbersOf};
 ghost use Rattle.selection.specs.Bridge.{Follows};
-ghost use Rattle.state.specs.Stored.{Stored, meaning, withCore, withTally, withFrequency, withSoak, withRegisters};
-ghost use Rattle.tick.specs.Lent as tick;
+ghost use Rattle.state.specs.Stored.{Stored, meaning, withCore, withTally, withFrequency, withSoak, withRegisters, withBackup};
+ghost use Rattle.tick.specs.Lent.{across, Handed};
 ghost use Rattle.unit.specs.Events.{eventOf};
 ghost use Rattle.unit.specs.Given.{Gives};
-ghost use Rattle.unit.specs.Lent.{across, entering, leaving};
+ghost use Rattle.unit.specs.Lent.{entering, leaving};
 use arith::is_input;
 use arith::is_tracked;
 use arith::wide16;
@@ -86,7 +85,7 @@ fn on_tick(
     sums: &mut Sums,
     building: &mut Sums,
 ) -> Stepped
-    ensures { λ r. ⌜ tick.across level decay activity (now (frequency .entry)) remainder soak (now (regs .entry)) (now (windows .entry)) sums building (λ before after. (s : Stored) → numbers (now (sizes .entry)) (now (highs .entry)) (now (lows .entry)) (now (lasts .entry)) ≡ numbersOf (s .buckets) → Follows (settingsFrom (now (regs .entry))) (now (keys .entry)) handed → Gives (before k s) (events.tickWith mask lock x) (r .refusal) (after (r .core) s)) ⌝ }
+    ensures { λ r. ⌜ across level decay activity frequency remainder soak regs windows sums building (λ before after. (s : Stored) → Handed sizes highs lows lasts regs keys handed s → Gives (before k s) (events.tickWith mask lock x) (r .refusal) (after (r .core) s)) ⌝ }
 {
     let ok = in_range(x);
     if ok {
@@ -265,7 +264,7 @@ pub fn step(
     building: &mut Sums,
     backup: &mut Sums,
 ) -> Stepped
-    ensures { λ r. ⌜ across level decay activity frequency remainder soak regs (now (windows .entry)) sums building backup (λ before after. (s : Stored) → numbers (now (sizes .entry)) (now (highs .entry)) (now (lows .entry)) (now (lasts .entry)) ≡ numbersOf (s .buckets) → Follows (settingsFrom (now (regs .entry))) (now (keys .entry)) (now (handed .entry)) → Gives (before k s) (eventOf e) (r .refusal) (after (r .core) s)) ⌝ }
+    ensures { λ r. ⌜ across level decay activity frequency remainder soak regs windows sums building (λ before after. (s : Stored) → Handed sizes highs lows lasts regs keys (now (handed .entry)) s → Gives (before k (withBackup (now (backup .entry)) s)) (eventOf e) (r .refusal) (after (r .core) (withBackup (now (backup .exit)) s))) ⌝ }
     ensures { λ _. ⌜ (Follows (settingsFrom (now (regs .entry))) (now (keys .entry)) (now (handed .entry)) → Follows (settingsFrom (now (regs .exit))) (now (keys .exit)) (now (handed .exit))) ⌝ }
 {
     match e {

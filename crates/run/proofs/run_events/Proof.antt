@@ -138,7 +138,7 @@ loop-again c =
       after .1 (l .inv .1),
       (λ s lanes.
           going-put _ _ (4 * i) (4 * (i + 1)) _ _ _ _ _ _ _ (omega arith) (omega (arith, in-loop .loop-test .taken, begun at-loop .pre .1))
-          (events-more _ _ _ (in-loop .loop-test .taken) _ (reads-at read _ (ap decodedOf (told .e .given .1)))) (after .0 s lanes (l .inv .1) .rules)
+          (events-more _ _ _ (in-loop .loop-test .taken) _ (reads-at read _ (ap decodedOf (told .e .given .1)))) (after .0 s (record { lanes = lanes; follows = l .inv .1 }) .rules)
           (put .put-record .ensures (left s)) (l .inv .2 s lanes)),
     )
 

@@ -41,7 +41,7 @@ watchedRows c =
 
 returns : tie.Need-returns
 unfolding watchedAfter inputsAfter loopAfter weekAfter steps1to4 step5 ticked
-returns c s lanes follows =
+returns c s handed =
     let kept = c .before .before .before in
     let held = kept .before .before in
     let turned = held .before in
@@ -68,13 +68,13 @@ returns c s lanes follows =
       soak = now (a .soak);
     } in
     let seen = watching .watched .ensures
-    ∙ (λ i. watched (λ j. bucketAt (lanes i .sizes) (lanes i .highs) (lanes i .lows) (lanes i .lasts) (j - 1)) (a .mask) (inputsOf before))
+    ∙ (λ i. watched (λ j. bucketAt (handed .lanes i .sizes) (handed .lanes i .highs) (handed .lanes i .lows) (handed .lanes i .lasts) (j - 1)) (a .mask) (inputsOf before))
     ∙ watched-by (s .buckets) (a .mask) before in
     let loop = driven .looped .ensures in
     let inputs = alarms .alarmed .ensures rows
     ∙ (λ i. if isTracked selected && alarmDue (loop i) then altered lockAlarmed selected (seen i) else seen i) in
     let after = withLockAlarms rows (alarms .alarmed .last .1 .1 .0) (alarms .alarmed .last .1 .1 .1 .0) in
-    let choice = choosing .chosen .ensures after follows ∙ ap (λ (l : Inputs). chosen (busy (windowsOf (now (a .windows))) (k .place)) set l (choiceOf (k .choice))) inputs in
+    let choice = choosing .chosen .ensures after (handed .follows) ∙ ap (λ (l : Inputs). chosen (busy (windowsOf (now (a .windows))) (k .place)) set l (choiceOf (k .choice))) inputs in
     let steering = turned .steered .ensures
     ∙ (λ i. steered (auto .is-automatic .ensures i) (op .setting .ensures i) (ready .is-ready .ensures (now (a .sums)) (now (a .building)) (s .backup) i) selected (choice i .selected) (loop i)) in
     let holding = held .holding-after .ensures ∙ (λ i. holdingAfter (modeOf (k .pll .mode)) (steering i .mode) (k .holding)) in

@@ -12,7 +12,8 @@ returns c =
     let keyed = stepped .before .before .before .before .before .before .before .before .before .before .before .before .before .before .before .before .before .before .before .before in
     let numbered = keyed .before .before .before .before .before .before .before .before .before .before in
     let u = numbered .before .before .before .before .before .before .before .before .before .args .t2 in
-    stepped .step .ensures .0 u (numbered .numbers-of .ensures) (record { keyed = keyed .keys-of .ensures; delayed = refl })
+    stepped .step .ensures .0 u
+    (record { lanes = numbered .numbers-of .ensures; follows = record { keyed = keyed .keys-of .ensures; delayed = refl } })
 
 pub handle-spec : {M : Type 1} → statement M
 handle-spec = tie.close (tie.spec (λ c κs. tt) (λ c κs. tt) (λ c κs. tt) returns)

@@ -39,10 +39,10 @@ returns c =
     let known = c .before .before .before .before .before .before .before .before .before .before .before .before in
     let told = known .before in
     let a = told .before .before .args in (
-      (λ s lanes follows.
+      (λ s handed.
           rw (told .e .given .1)
           (same-event (λ i. tickWith (told .e .given .0 .0) (told .e .given .0 .1 .0) (sample known i))
-          (c .on-tick .ensures (withBackup (now (a .backup)) s) lanes follows))),
+          (c .on-tick .ensures (withBackup (now (a .backup)) s) (record { lanes = handed .lanes; follows = handed .follows })))),
       (λ follows. follows),
     )
 
@@ -50,7 +50,7 @@ returns-2 : tie.Need-returns-2
 returns-2 c =
     let known = c .before .before .before in
     let told = known .before in (
-      (λ s lanes follows.
+      (λ s handed.
           rw (told .e2 .given .1)
           (same-event (λ i. measurement (told .e2 .given .0 .0) (offset known i)) (c .on-measurement .ensures (found (told .before .before) s)))),
       (λ follows. follows),
@@ -59,13 +59,13 @@ returns-2 c =
 returns-3 : tie.Need-returns-3
 returns-3 c =
     let told = c .before .before in
-    ((λ s lanes follows. rw (told .enum-told .given .1) (c .on-hit .ensures (found (told .before .before) s))), (λ follows. follows))
+    ((λ s handed. rw (told .enum-told .given .1) (c .on-hit .ensures (found (told .before .before) s))), (λ follows. follows))
 
 returns-4 : tie.Need-returns-4
 returns-4 c =
     let w = c .before in
     let told = w .before .before .before .before .before .before .before .before in
-    ((λ s lanes follows. rw (told .e3 .given .1) (w .write .ensures .0 (found (told .before .before) s))), w .write .ensures .1)
+    ((λ s handed. rw (told .e3 .given .1) (w .write .ensures .0 (found (told .before .before) s))), w .write .ensures .1)
 
 pub step-spec : {M : Type 1} → statement M
 step-spec =
