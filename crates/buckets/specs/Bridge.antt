@@ -9,7 +9,7 @@ use Rattle.rules.specs.Buckets as rules
 use Rattle.buckets.specs.declared.Buckets.{Buckets}
 use Rattle.buckets.specs.declared.Numbers.{Numbers}
 
--- four and eight values, by their places
+-- four and eight values, by their lanes
 abbrev pub four : {A : Type 0} → (ℕ → A) → List A
 four f = f 0 ∷ f 1 ∷ f 2 ∷ f 3 ∷ []
 
@@ -49,7 +49,7 @@ withNumber i n b = record { sets = b .sets; assigned = eight (λ k. if eqb i (k 
 
 -- ---- the numbers of each input
 
--- the word of the set of the input at a place
+-- the word of the set of the input in a lane
 abbrev pub wordOf : List ℕ → List ℕ → ℕ → ℕ
 wordOf sets assigned k = getD sets (getD assigned k 0 % 4) 0
 
@@ -57,7 +57,7 @@ wordOf sets assigned k = getD sets (getD assigned k 0 % 4) 0
 abbrev pub numbers : List ℕ → List ℕ → List ℕ → List ℕ → Numbers
 numbers sizes highs lows lasts = record { sizes = sizes; highs = highs; lows = lows; lasts = lasts }
 
--- the bucket at a place of such rows
+-- the bucket in a lane of such rows
 abbrev pub bucketAt : List ℕ → List ℕ → List ℕ → List ℕ → ℕ → Bucket
 bucketAt sizes highs lows lasts k =
     record { size = getD sizes k 0; setLevel = getD highs k 0; clearLevel = getD lows k 0; decayTicks = ticksOf (getD lasts k 0) }

@@ -45,7 +45,7 @@ fn key_of(usable: bool, register: u8, number: u8) -> u16
     either(usable, key, NO_KEY)
 }
 
-// The keys of the inputs 1 to 8 and of Free Run, by the registers alone.
+// The keys of the inputs 1 to 8 and of Free Run, by the registers alone: input i has its own in slot i - 1.
 pub fn keys_of(regs: &Registers) -> Keys
     ensures { λ r. ⌜ r ≡ keysFrom (settingsFrom (now (regs .entry))) ⌝ }
 {

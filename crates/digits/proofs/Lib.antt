@@ -1,3 +1,3 @@
 -- Laws that the proofs share.
-pub mod Places
+pub mod Putting
 pub mod Columns

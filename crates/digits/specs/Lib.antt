@@ -1,2 +1,2 @@
 -- What the contracts of the digits cite.
-pub mod Places
+pub mod Puts

@@ -1,5 +1,5 @@
 // Numbers as text: one way to write a number in digits (document 01, "Run sheet and rack program").
-// Each text is put at a place of the lent bytes, as much of it as there is room for, and the place after it is returned (`Puts`).
+// Each text is put into the lent bytes from byte `at` on, as much of it as there is room for, and the byte after it is returned (`Puts`).
 // Rules are those of crates/rules/specs/Printout.antt; a function that has one names it.
 ghost use mathlib.Core.Path.{_≡_};
 ghost use mathlib.Core.List.{[], _∷_, _++_};
@@ -8,7 +8,7 @@ ghost use lib.ListN.{length};
 ghost use Rattle.rules.specs.Printout as rules;
 ghost use Rattle.rules.specs.Printout.{blank, decimal, hexadecimal};
 ghost use Rattle.rules.specs.Pages.{blanks};
-ghost use Rattle.digits.specs.Places.{Puts};
+ghost use Rattle.digits.specs.Puts.{Puts};
 
 // One byte.
 pub fn put(byte: u8, at: usize, out: &mut [u8]) -> usize
@@ -42,7 +42,7 @@ fn digit(d: u8) -> u8
     if d < 10 { 48 + d } else { 87 + d }
 }
 
-// A number's digits at the end of 25 columns, and the place of the first; the columns before it are blank. A number has at most 20 digits, which leaves five
+// A number's digits at the end of 25 columns, and where the first stands; the columns before it are blank. A number has at most 20 digits, which leaves five
 // blanks for those who take more columns than it has digits.
 pub struct Digits {
     pub columns: [u8; 25],

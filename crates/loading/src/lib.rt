@@ -13,6 +13,7 @@ use registers::QUALIFICATION_SLOT;
 use registers::REGISTERS;
 use registers::REJECT_SLOT;
 use registers::Registers;
+use registers::SLOTS;
 use state::Unit;
 use unit::Outcome;
 
@@ -76,7 +77,7 @@ fn registers_from(table: &[u8]) -> Registers
     requires { ⌜ length (now table) ≡ mapSize ⌝ }
     ensures { λ r. ⌜ settingsFrom r ≡ (λ a. stored a (settingsFrom (now (table .entry)) a)) ⌝ }
 {
-    let mut regs = [0u8; 32];
+    let mut regs = [0u8; SLOTS];
     for k in 0..REGISTERS {
         regs[k] = kept(k, table[k]);
     }

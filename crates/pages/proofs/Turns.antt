@@ -10,8 +10,8 @@ use Rattle.rules.specs.Sheet.{over}
 use Rattle.rules.specs.Pages.{lineBytes, pageLines, pageBytes, pageCount, pageLine, joined, pagesOf}
 use Rattle.rules.proofs.Parts.{came-back}
 use Rattle.rules.proofs.Pages.{length-line, length-joined, joined-more, all-lines, length-pages}
-use Rattle.digits.specs.Places.{Puts}
-use Rattle.digits.proofs.Places.{sets-append, sets-front, from-front}
+use Rattle.digits.specs.Puts.{Puts}
+use Rattle.digits.proofs.Putting.{sets-append, sets-front, from-front}
 
 -- a line put into the first 28 bytes
 pub front-line : (line out : List ℕ) {text w : List ℕ} {next : ℕ}

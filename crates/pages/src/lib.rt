@@ -1,5 +1,5 @@
 // The pages of a run's records (document 02, #101): lines of 27 columns, 50 to a page, the last page filled.
-// Rules are those of crates/rules/specs/Pages.antt; the rule is named above the function. `Puts` says that a text is put at a place, `laidOut` what is left where
+// Rules are those of crates/rules/specs/Pages.antt; the rule is named above the function. `Puts` says that a text is put into the output, `laidOut` what is left where
 // there is too little room.
 ghost use mathlib.Core.Path.{_≡_};
 ghost use mathlib.Core.List.{[], _∷_, _++_};
@@ -9,7 +9,7 @@ ghost use lib.ListN.{length, drop};
 ghost use Rattle.rules.specs.Sheet.{over};
 ghost use Rattle.rules.specs.Printout.{lineFeed, decimal};
 ghost use Rattle.rules.specs.Pages.{leftIn, rightIn, stateName, recordColumns, pageBytes, pageCount, pageLine};
-ghost use Rattle.digits.specs.Places.{Puts};
+ghost use Rattle.digits.specs.Puts.{Puts};
 ghost use Rattle.pages.specs.Output.{laidOut};
 use arith::wide64;
 use digits::digits_of;
@@ -58,10 +58,10 @@ fn put_columns(index: usize, records: &[u8], out: &mut [u8]) -> usize
     requires { ⌜ 4 * index + 3 < length (now records) ⌝ }
     ensures { λ r. ⌜ Puts (recordColumns index (drop (4 * index) (now (records .entry))) ++ lineFeed ∷ []) 0 (now (out .entry)) r (now (out .exit)) ⌝ }
 {
-    let place = 4 * index;
-    let refusal = wide64(records[place]);
-    let state = records[place + 1];
-    let status = records[place + 3];
+    let first = 4 * index;
+    let refusal = wide64(records[first]);
+    let state = records[first + 1];
+    let status = records[first + 3];
     let mut next = put_right(index, 5, 0, out);
     next = put(b' ', next, out);
     next = put_word(&name_of(state / 16), next, out);
@@ -116,8 +116,8 @@ pub fn lay_out(records: &[u8], out: &mut [u8])
     let lines = PAGE_LINES * page_count(n);
     let mut j = 0;
     while j < lines {
-        let place = LINE_BYTES * j;
-        put_line(n, records, j, &mut out[place..]);
+        let start = LINE_BYTES * j;
+        put_line(n, records, j, &mut out[start..]);
         j += 1;
     }
 }

@@ -11,8 +11,8 @@ use Rattle.rules.specs.Sheet.{settingsCount, eventsAt, eventsCount, sheetEnd, r
 use Rattle.rules.specs.Printout.{recordsWord, refusedWord, headLine, recordLines, printed}
 use Rattle.rules.proofs.Tests.{by-test, or-false}
 use Rattle.rules.proofs.Sheets.{outputs}
-use Rattle.digits.specs.Places.{Puts}
-use Rattle.digits.proofs.Places.{from-front}
+use Rattle.digits.specs.Puts.{Puts}
+use Rattle.digits.proofs.Putting.{from-front}
 use Rattle.text.specs.Text.{recordsText}
 use Rattle.rack.specs.Front.{Front}
 

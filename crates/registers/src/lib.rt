@@ -13,7 +13,9 @@ ghost use Rattle.registers.specs.Bridge.{row};
 pub const REGISTERS: usize = 27;
 
 // The bytes that a unit keeps of them: a slot for each register, and some more, which stay 0 and fill the unit up to a multiple of eight bytes.
-pub type Registers = [u8; 32];
+pub const SLOTS: usize = 32;
+
+pub type Registers = [u8; SLOTS];
 
 // The slots of registers that are read by their slot.
 pub const FREE_RUN_SLOT: usize = 8;
@@ -179,7 +181,7 @@ pub fn fresh_registers() -> Registers
     ensures { λ r. ⌜ settingsFrom r ≡ settingsFrom freshTable ⌝ }
 {
     let table = TABLE;
-    let mut regs = [0u8; 32];
+    let mut regs = [0u8; SLOTS];
     for k in 0..REGISTERS {
         regs[k] = table[k].fresh;
     }
@@ -188,7 +190,7 @@ pub fn fresh_registers() -> Registers
 
 // ---- the settings
 
-// The bytes are 32: what their type says, as a fact. It costs nothing when compiled.
+// There are so many bytes: what their type says, as a fact. It costs nothing when compiled.
 pub fn bytes(regs: Registers) -> usize
     ensures { λ r. ⌜ (r ≡ 32) × (length regs ≡ 32) ⌝ }
 {

@@ -1,10 +1,10 @@
 // The text that the rack program prints for a sheet (document 01, "Run sheet and rack program").
-// Each text is put into the lent bytes, as much of it as there is room for, and the place after it is returned; the bytes after it are unchanged.
+// Each text is put into the lent bytes, as much of it as there is room for, and the byte after it is returned; the bytes after it are unchanged.
 // Each contract cites a rule of crates/rules/specs/Printout.antt; the rule is named above the function.
 ghost use Prim.Native.Nat.{_+_, _*_, _<_};
 ghost use lib.ListN.{length, drop};
 ghost use Rattle.rules.specs.Printout.{refusedWord, headLine, recordLine};
-ghost use Rattle.digits.specs.Places.{Puts};
+ghost use Rattle.digits.specs.Puts.{Puts};
 ghost use Rattle.text.specs.Text.{recordsText};
 use arith::wide64;
 use digits::put;
@@ -26,13 +26,13 @@ fn put_line(index: usize, records: &[u8], at: usize, out: &mut [u8]) -> usize
     requires { ⌜ 4 * index + 3 < length (now records) ⌝ }
     ensures { λ r. ⌜ Puts (recordLine index (drop (4 * index) (now (records .entry)))) at (now (out .entry)) r (now (out .exit)) ⌝ }
 {
-    let place = 4 * index;
+    let first = 4 * index;
     let mut next = put_decimal(index, at, out);
     next = put(b' ', next, out);
-    next = put_decimal(wide64(records[place]), next, out);
-    next = put_hexadecimal(records[place + 1], next, out);
-    next = put_hexadecimal(records[place + 2], next, out);
-    next = put_hexadecimal(records[place + 3], next, out);
+    next = put_decimal(wide64(records[first]), next, out);
+    next = put_hexadecimal(records[first + 1], next, out);
+    next = put_hexadecimal(records[first + 2], next, out);
+    next = put_hexadecimal(records[first + 3], next, out);
     put(b'\n', next, out)
 }
 

@@ -5,7 +5,7 @@ ghost use Prim.Native.Nat.{_<_};
 ghost use Rattle.rules.specs.Settings.{delayTicks};
 ghost use Rattle.waits.specs.Handed.{ticksOf, unread};
 
-// The table: place m has the ticks of m minutes.
+// The table: entry m has the ticks of m minutes.
 const WAITS: [u32; 256] = [
     0,
     469,

@@ -4,7 +4,7 @@ use mathlib.Core.Path.{_≡_}
 use native.Mathlib.Omega.{arith}
 use borrow.Author.Needs.{needs}
 use Rattle.rules.specs.Printout.{hexadecimal}
-use Rattle.digits.proofs.Places.{then}
+use Rattle.digits.proofs.Putting.{then}
 use Rattle.digits.proofs.put_hexadecimal.Statement.{statement}
 use Rattle.digits.proofs.put_hexadecimal.Tie as tie
 

@@ -6,9 +6,9 @@ use lib.ListN.{length, take}
 use lib.Seq.{take-suc, take-all}
 use denote.Ref.{now}
 use borrow.Author.Needs.{needs}
-use Rattle.digits.specs.Places.{Puts}
-use Rattle.digits.proofs.Places as puts
-use Rattle.digits.proofs.Places.{nothing, then}
+use Rattle.digits.specs.Puts.{Puts}
+use Rattle.digits.proofs.Putting as puts
+use Rattle.digits.proofs.Putting.{nothing, then}
 use Rattle.digits.proofs.put_word.Statement.{statement}
 use Rattle.digits.proofs.put_word.Tie as tie
 

@@ -3,8 +3,8 @@ use native.Mathlib.Nat.{add-zero}
 use lib.Seq.{getD-drop}
 use borrow.Author.Needs.{needs}
 use Rattle.rules.specs.Pages.{recordColumns}
-use Rattle.digits.proofs.Places as puts
-use Rattle.digits.proofs.Places.{then}
+use Rattle.digits.proofs.Putting as puts
+use Rattle.digits.proofs.Putting.{then}
 use Rattle.pages.proofs.put_columns.Statement.{statement}
 use Rattle.pages.proofs.put_columns.Tie as tie
 

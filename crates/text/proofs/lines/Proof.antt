@@ -6,9 +6,9 @@ use lib.ListN.{length}
 use denote.Ref.{now}
 use borrow.Author.Needs.{needs}
 use Rattle.rules.specs.Printout.{recordsWord, recordLines}
-use Rattle.digits.specs.Places.{Puts}
-use Rattle.digits.proofs.Places as puts
-use Rattle.digits.proofs.Places.{nothing, then}
+use Rattle.digits.specs.Puts.{Puts}
+use Rattle.digits.proofs.Putting as puts
+use Rattle.digits.proofs.Putting.{nothing, then}
 use Rattle.text.specs.Text.{recordsText}
 use Rattle.text.proofs.Line.{next-line}
 use Rattle.text.proofs.lines.Statement.{statement}

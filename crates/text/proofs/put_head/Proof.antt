@@ -1,7 +1,7 @@
 -- The word, the number and a line feed.
 use borrow.Author.Needs.{needs}
 use Rattle.rules.specs.Printout.{headLine}
-use Rattle.digits.proofs.Places.{then}
+use Rattle.digits.proofs.Putting.{then}
 use Rattle.text.proofs.put_head.Statement.{statement}
 use Rattle.text.proofs.put_head.Tie as tie
 

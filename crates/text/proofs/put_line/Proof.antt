@@ -2,7 +2,7 @@
 use native.Mathlib.Nat.{add-zero}
 use lib.Seq.{getD-drop}
 use Rattle.rules.specs.Printout.{hexadecimal, recordLine}
-use Rattle.digits.proofs.Places.{then}
+use Rattle.digits.proofs.Putting.{then}
 use borrow.Author.Needs.{needs}
 use Rattle.text.proofs.put_line.Statement.{statement}
 use Rattle.text.proofs.put_line.Tie as tie

@@ -5,7 +5,7 @@ use mathlib.Core.List.{List}
 use lib.ListN.{length}
 use lib.Seq.{sets}
 
--- As much of the text as there is room for is stored byte by byte from place `at` on, and `next` is the place after it. (A store past the end changes nothing.)
+-- As much of the text as there is room for is stored byte by byte from byte `at` on, and `next` is the byte after it. (A store past the end changes nothing.)
 pub record Puts (text : List ℕ) (at : ℕ) (before : List ℕ) (next : ℕ) (after : List ℕ) : Type 0 where
-  pub place : next ≡ at + min (length text) (length before - at)
+  pub ends : next ≡ at + min (length text) (length before - at)
   pub stored : after ≡ sets before at text

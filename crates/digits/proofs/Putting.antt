@@ -10,7 +10,7 @@ use lib.Seq.{sets, length-sets, set-out, sets-eq}
 use borrow.Author.Tests.{leb-true, leb-false}
 use Rattle.rules.specs.Sheet.{over}
 use Rattle.rules.proofs.Tests.{by-test}
-use Rattle.digits.specs.Places.{Puts}
+use Rattle.digits.specs.Puts.{Puts}
 
 -- stores past the end change nothing
 sets-out : (l : List ℕ) (at : ℕ) (x : List ℕ) → length l ≤ at → sets l at x ≡ l
@@ -22,7 +22,7 @@ sets-append [] y l at = ap (λ n. sets l n y) (sym (add-zero at))
 sets-append (a ∷ x) y l at = sets-append x y (set l at a) (suc at) ∙ ap (λ n. sets (sets (set l at a) (suc at) x) n y) (omega arith)
 
 pub nothing : {l : List ℕ} {at : ℕ} → Puts [] at l at l
-nothing {l} {at} = record { place = omega arith; stored = refl }
+nothing {l} {at} = record { ends = omega arith; stored = refl }
 
 pub same-length : {x before after : List ℕ} {at next : ℕ} → Puts x at before next after → length after ≡ length before
 same-length {x} {before} {after} {at} p = ap length (p .stored) ∙ length-sets before at x
@@ -45,8 +45,8 @@ pub then :
 then {x} {y} {before} {between} {after} {at} {next} {end} p q =
     let same = same-length p in
     record {
-      place = omega (arith, p .place, q .place, length-append x y);
-      stored = q .stored ∙ (λ j. sets (p .stored j) (p .place j) y) ∙ behind x y before at ∙ sym (sets-append x y before at);
+      ends = omega (arith, p .ends, q .ends, length-append x y);
+      stored = q .stored ∙ (λ j. sets (p .stored j) (p .ends j) y) ∙ behind x y before at ∙ sym (sets-append x y before at);
     }
 
 -- a text at the front, where there is room for it
@@ -57,4 +57,4 @@ pub from-front :
     {text before after : List ℕ} {next : ℕ}
     → length text ≤ length before → Puts text 0 before next after
     → (next ≡ length text) × (after ≡ over text before)
-from-front {text} {before} h p = (omega (arith, p .place), p .stored ∙ sets-front text before h)
+from-front {text} {before} h p = (omega (arith, p .ends), p .stored ∙ sets-front text before h)
