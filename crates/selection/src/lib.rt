@@ -96,14 +96,17 @@ fn waiting(wait: u32, b: u32, c: Choice) -> Choice
     }
 }
 
-// The rule `reverted`: the reversion to `b`, which waits for n ticks. The windows are looked at only where the wait is over: until then it rises in them as
-// outside.
-fn reverted(windows: &Windows, place: u32, n: u32, b: u32, c: Choice) -> Choice
-    ensures { λ r. ⌜ choiceOf r ≡ selection.reverted (busy (windowsOf (now (windows .entry))) place) n b (choiceOf c) ⌝ }
+// The rule `reverted`: the reversion to `b`, with a delay of so many minutes, of which the ticks may have been handed on. A wait that is not over by what was
+// handed is not over. The table is looked at only where it is, and then the windows: until then the wait rises in them as outside.
+fn reverted(windows: &Windows, place: u32, handed: u32, minutes: u8, b: u32, c: Choice) -> Choice
+    ensures { λ r. ⌜ choiceOf r ≡ selection.reverted (busy (windowsOf (now (windows .entry))) place) (ticksOf handed minutes) b (choiceOf c) ⌝ }
 {
-    let wait = wait_after(false, n, b, c);
-    let over = switches(n, wait);
-    if !over {
+    let wait = wait_after(false, handed, b, c);
+    if !switches(handed, wait) {
+        return waiting(wait, b, c);
+    }
+    let n = ticks_of(handed, minutes);
+    if !switches(n, wait) {
         return waiting(wait, b, c);
     }
     let blocked = is_busy(windows, place);
@@ -135,8 +138,7 @@ fn reselected(
     if stands {
         let reverts = is_revertive(regs, c.selected);
         if reverts {
-            let n = ticks_of(handed, setting(regs, 0x43));
-            return reverted(windows, place, n, b, c);
+            return reverted(windows, place, handed, setting(regs, 0x43), b, c);
         }
         return settled(c.selected);
     }

@@ -5,7 +5,7 @@ use Rattle.rules.specs.Words.{if_then_else_}
 use Rattle.rules.specs.Settings.{delayTicks}
 
 abbrev pub unread : ℕ
-unread = 4_294_967_295
+unread = 0
 
 -- the ticks of a delay of so many minutes, of which this was handed on
 unfoldable pub ticksOf : ℕ → ℕ → ℕ

@@ -273,8 +273,8 @@ pub fn delay_ticks(minutes: u8) -> u32
     WAITS[m]
 }
 
-// What is handed where the delay has not been looked up: more than every delay.
-pub const UNREAD: u32 = 4_294_967_295;
+// What is handed where the delay has not been looked up. No delay has these ticks but that of 0 minutes.
+pub const UNREAD: u32 = 0;
 
 // A delay that was handed on, or the one of these minutes.
 pub fn ticks_of(handed: u32, minutes: u8) -> u32

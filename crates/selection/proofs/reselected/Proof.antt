@@ -30,10 +30,10 @@ returns c m d =
 returns-2 : tie.Need-returns-2
 unfolding reselected
 returns-2 c m d =
-    let a = c .before .before .before .before .before .before .before .before .before .args in
-    let reverts : revertive (settingsFrom (a .regs .now)) (a .c .selected) ≡ true = sym (c .before .before .before .before .is-revertive .ensures) ∙ c .before .before .before .if3 .taken in
-    rw (← c .before .before .before .before .before .before .is-candidate .ensures m, c .before .before .before .before .before .if2 .taken, ne-eqb _ _ (c .before .before .before .before .before .before .before .if1 .left), reverts)
-    (c .reverted .ensures ∙ ap (λ n. reverted (busy (windowsOf (a .windows .now)) (a .place)) n (a .b) (choiceOf (a .c))) (c .before .ticks-of .ensures ∙ ap (ticksOf (a .handed)) (c .before .before .setting .ensures) ∙ d))
+    let a = c .before .before .before .before .before .before .before .before .args in
+    let reverts : revertive (settingsFrom (a .regs .now)) (a .c .selected) ≡ true = sym (c .before .before .before .is-revertive .ensures) ∙ c .before .before .if3 .taken in
+    rw (← c .before .before .before .before .before .is-candidate .ensures m, c .before .before .before .before .if2 .taken, ne-eqb _ _ (c .before .before .before .before .before .before .if1 .left), reverts)
+    (c .reverted .ensures ∙ ap (λ n. reverted (busy (windowsOf (a .windows .now)) (a .place)) n (a .b) (choiceOf (a .c))) (ap (ticksOf (a .handed)) (c .before .setting .ensures) ∙ d))
 
 returns-3 : tie.Need-returns-3
 unfolding reselected
@@ -53,7 +53,6 @@ reselected-spec =
     (tie.spec
     (search needs)
     returns
-    (search needs)
     (search needs)
     (search needs)
     (search needs)
