@@ -30,6 +30,14 @@ pub struct Tally {
 // Block sums, newest first: those in use, those of the building history, or the backup's.
 pub type Sums = [i64; 64];
 
+// The block sums of a unit: those in use, those of the building history, and the backup's. What lies after the sums that the tally counts means nothing.
+#[repr(C)]
+pub struct History {
+    pub sums: Sums,
+    pub building: Sums,
+    pub backup: Sums,
+}
+
 // What step 5 gives of the tally: the tally, whether a block is done, and if so its sum, which is to join the history that fills.
 struct Update {
     tally: Tally,

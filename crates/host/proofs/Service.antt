@@ -74,7 +74,7 @@ held-state start es u h = sym (lent-run (h .calls) (h .first) u (h .lent)) ∙ r
 
 own-ready : (u : Stored) → ownReady u ≡ Ready (meaning u)
 unfolding ready
-own-ready u = ready-kept (u .sums) (u .core .tally .count)
+own-ready u = ready-kept (u .history .sums) (u .core .tally .count)
 
 -- DEMAND 2 OF THE UNIT
 pub agreement : Agreement

@@ -55,7 +55,7 @@ fn value_bits(u: Unit) -> u32
     ensures { λ r. ⌜ r ≡ (if ready (meaning u .history) then reading.twos (value (meaning u .history)) else 0) ⌝ }
 {
     let t = u.core.tally;
-    let sums = u.sums;
+    let sums = u.history.sums;
     let ready = history::is_ready(t);
     if ready {
         return value::twos(value::value(t, sums));

@@ -166,9 +166,9 @@ pub fn run_into(sheet: &[u8], out: &mut [u8]) -> usize
     let m = u.monitors;
     let soak = m.soak;
     let mut regs = u.regs;
-    let mut sums = u.sums;
-    let mut building = u.building;
-    let mut backup = u.backup;
+    let mut sums = u.history.sums;
+    let mut building = u.history.building;
+    let mut backup = u.history.backup;
     let mut keys = candidates::keys_of(&regs);
     let mut handed = UNREAD;
     let fresh = u.core;

@@ -14,6 +14,7 @@ use Rattle.pll.specs.Bridge.{loopOf}
 use Rattle.week.specs.Bridge.{weekOf}
 use Rattle.selection.specs.Bridge.{choiceOf}
 use Rattle.history.specs.Bridge.{historyOf}
+use Rattle.history.specs.declared.History.{History}
 use Rattle.history.specs.declared.Tally.{Tally}
 use Rattle.state.specs.declared.Core.{Core}
 use Rattle.state.specs.declared.Unit as code
@@ -31,7 +32,7 @@ meaning s =
       settings = settingsFrom (s .regs);
       loop = loopOf (s .core .pll);
       choice = choiceOf (s .core .choice);
-      history = historyOf (s .core .tally) (s .sums) (s .building) (s .backup);
+      history = historyOf (s .core .tally) (s .history .sums) (s .history .building) (s .history .backup);
       holding = s .core .holding;
       week = weekOf (s .core .place) (s .windows);
     }
@@ -39,36 +40,32 @@ meaning s =
 -- ---- with another part
 
 abbrev pub withCore : Core → Stored → Stored
-withCore x s =
-    record { core = x; monitors = s .monitors; buckets = s .buckets; sums = s .sums; building = s .building; backup = s .backup; windows = s .windows; regs = s .regs }
+withCore x s = record { core = x; monitors = s .monitors; buckets = s .buckets; history = s .history; windows = s .windows; regs = s .regs }
 
 abbrev pub withRows : Monitors → Stored → Stored
-withRows x s =
-    record { core = s .core; monitors = x; buckets = s .buckets; sums = s .sums; building = s .building; backup = s .backup; windows = s .windows; regs = s .regs }
+withRows x s = record { core = s .core; monitors = x; buckets = s .buckets; history = s .history; windows = s .windows; regs = s .regs }
 
 abbrev pub withSets : Buckets → Stored → Stored
-withSets x s =
-    record { core = s .core; monitors = s .monitors; buckets = x; sums = s .sums; building = s .building; backup = s .backup; windows = s .windows; regs = s .regs }
+withSets x s = record { core = s .core; monitors = s .monitors; buckets = x; history = s .history; windows = s .windows; regs = s .regs }
 
-abbrev pub withSums : List ℤ → Stored → Stored
-withSums x s =
-    record { core = s .core; monitors = s .monitors; buckets = s .buckets; sums = x; building = s .building; backup = s .backup; windows = s .windows; regs = s .regs }
-
-abbrev pub withBuilding : List ℤ → Stored → Stored
-withBuilding x s =
-    record { core = s .core; monitors = s .monitors; buckets = s .buckets; sums = s .sums; building = x; backup = s .backup; windows = s .windows; regs = s .regs }
-
-abbrev pub withBackup : List ℤ → Stored → Stored
-withBackup x s =
-    record { core = s .core; monitors = s .monitors; buckets = s .buckets; sums = s .sums; building = s .building; backup = x; windows = s .windows; regs = s .regs }
+abbrev pub withHistory : History → Stored → Stored
+withHistory x s = record { core = s .core; monitors = s .monitors; buckets = s .buckets; history = x; windows = s .windows; regs = s .regs }
 
 abbrev pub withWindows : List ℕ → Stored → Stored
-withWindows x s =
-    record { core = s .core; monitors = s .monitors; buckets = s .buckets; sums = s .sums; building = s .building; backup = s .backup; windows = x; regs = s .regs }
+withWindows x s = record { core = s .core; monitors = s .monitors; buckets = s .buckets; history = s .history; windows = x; regs = s .regs }
 
 abbrev pub withRegisters : List ℕ → Stored → Stored
-withRegisters x s =
-    record { core = s .core; monitors = s .monitors; buckets = s .buckets; sums = s .sums; building = s .building; backup = s .backup; windows = s .windows; regs = x }
+withRegisters x s = record { core = s .core; monitors = s .monitors; buckets = s .buckets; history = s .history; windows = s .windows; regs = x }
+
+-- other block sums in use, of the building history, of the backup
+abbrev pub withSums : List ℤ → Stored → Stored
+withSums sums s = withHistory (record { sums = sums; building = s .history .building; backup = s .history .backup }) s
+
+abbrev pub withBuilding : List ℤ → Stored → Stored
+withBuilding building s = withHistory (record { sums = s .history .sums; building = building; backup = s .history .backup }) s
+
+abbrev pub withBackup : List ℤ → Stored → Stored
+withBackup backup s = withHistory (record { sums = s .history .sums; building = s .history .building; backup = backup }) s
 
 -- another tally
 abbrev pub withTally : Tally → Stored → Stored

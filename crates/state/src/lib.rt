@@ -4,7 +4,7 @@ ghost use Rattle.rules.specs.Registers as rules;
 ghost use Rattle.rules.specs.Registers.{settingsFrom};
 ghost use Rattle.state.specs.Stored.{meaning};
 use buckets::Buckets;
-use history::Sums;
+use history::History;
 use history::Tally;
 use inputs::Monitors;
 use pll::Loop;
@@ -31,10 +31,7 @@ pub struct Unit {
     // The inputs' rows, and the bucket sets beside them.
     pub monitors: Monitors,
     pub buckets: Buckets,
-    // The block sums in use, those of the building history, and the backup's.
-    pub sums: Sums,
-    pub building: Sums,
-    pub backup: Sums,
+    pub history: History,
     pub windows: Windows,
     pub regs: Registers,
 }
@@ -59,9 +56,11 @@ pub fn fresh_with(regs: Registers) -> Unit
         },
         monitors: m,
         buckets: b,
-        sums: [0; 64],
-        building: [0; 64],
-        backup: [0; 64],
+        history: History {
+            sums: [0; 64],
+            building: [0; 64],
+            backup: [0; 64],
+        },
         windows: w,
         regs: regs,
     }

@@ -24,6 +24,7 @@ use arith::wide16;
 use arith::wide32;
 use buckets::Row;
 use candidates::Keys;
+use history::History;
 use history::Sums;
 use history::Tally;
 use inputs::Monitors;
@@ -337,9 +338,9 @@ pub fn handle(e: Event, u: Unit) -> Outcome
     let lows = numbers.lows;
     let lasts = numbers.lasts;
     let mut regs = u.regs;
-    let mut sums = u.sums;
-    let mut building = u.building;
-    let mut backup = u.backup;
+    let mut sums = u.history.sums;
+    let mut building = u.history.building;
+    let mut backup = u.history.backup;
     let mut keys = candidates::keys_of(&regs);
     let mut handed = UNREAD;
     let k = u.core;
@@ -373,12 +374,15 @@ pub fn handle(e: Event, u: Unit) -> Outcome
         remainder: remainder,
         soak: soak,
     };
+    let blocks = History {
+        sums: sums,
+        building: building,
+        backup: backup,
+    };
     let mut next = u;
     next.core = after;
     next.monitors = rows;
-    next.sums = sums;
-    next.building = building;
-    next.backup = backup;
+    next.history = blocks;
     next.regs = regs;
     Outcome {
         refusal: s.refusal,

@@ -48,8 +48,8 @@ unfolding reading.shown
 returns-5 c =
     let read = c .before .before in
     let u = read .before .before .before .before .before .before .before .before .before .before .args .u in
-    let isReady = read .is-ready .ensures (u .sums) (u .building) (u .backup) in
-    let isHeld = c .before .holds-backup .ensures (u .sums) (u .building) (u .backup) in
+    let isReady = read .is-ready .ensures (u .history .sums) (u .history .building) (u .history .backup) in
+    let isHeld = c .before .holds-backup .ensures (u .history .sums) (u .history .building) (u .history .backup) in
     rw (read .before .if5 .taken) (c .status-byte .ensures ∙ (λ i. reading.statusByte (modeOf (u .core .pll .mode)) (isReady i) (isHeld i)))
 
 returns-6 : tie.Need-returns-6

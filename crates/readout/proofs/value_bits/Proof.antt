@@ -14,13 +14,13 @@ returns c =
     let u = tested .before .before .before .before .args .u in
     let v = c .before .value .result in
     let told : toZ w64 (ofZ w64 v) ≡ v = stored v (search needs) in
-    rw (← tested .before .is-ready .ensures (u .sums) (u .building) (u .backup), tested .if1 .taken)
-    (c .twos .ensures ∙ ap twos (told ∙ c .before .value .ensures (u .building) (u .backup)))
+    rw (← tested .before .is-ready .ensures (u .history .sums) (u .history .building) (u .history .backup), tested .if1 .taken)
+    (c .twos .ensures ∙ ap twos (told ∙ c .before .value .ensures (u .history .building) (u .history .backup)))
 
 returns-2 : tie.Need-returns-2
 returns-2 c =
     let u = c .before .before .before .before .args .u in
-    rw (← c .before .is-ready .ensures (u .sums) (u .building) (u .backup), c .if1 .left) refl
+    rw (← c .before .is-ready .ensures (u .history .sums) (u .history .building) (u .history .backup), c .if1 .left) refl
 
 pub value-bits-spec : {M : Type 1} → statement M
 value-bits-spec =

@@ -29,7 +29,7 @@ returns c s =
     let start = ready .before .before in
     let a = start .args in
     let status = stated .status-byte .ensures
-    ∙ (λ i. statusByte (modeOf (a .k .pll .mode)) (ready .is-ready .ensures (s .sums) (s .building) (s .backup) i) (held .holds-backup .ensures (s .sums) (s .building) (s .backup) i)) in
+    ∙ (λ i. statusByte (modeOf (a .k .pll .mode)) (ready .is-ready .ensures (s .history .sums) (s .history .building) (s .history .backup) i) (held .holds-backup .ensures (s .history .sums) (s .history .building) (s .history .backup) i)) in
     rw (record-is (a .refusal) (meaning (withCore (a .k) (withSoak (now (a .soak)) s))), ← c .before .state-byte .ensures, ← status, ← c .qualified-mask .ensures (s .monitors))
     (four _ _ _ _ (now (a .out)) (start .pre))
 

@@ -94,9 +94,7 @@ loop-again c =
       core = l .k;
       monitors = record { level = soak; decay = soak; activity = soak; frequency = soak; remainder = soak; soak = soak };
       buckets = record { sets = soak; assigned = soak };
-      sums = l .sums;
-      building = l .building;
-      backup = l .backup;
+      history = record { sums = l .sums; building = l .building; backup = l .backup };
       windows = soak;
       regs = l .regs;
     } in

@@ -76,11 +76,11 @@ returns c s handed =
     let after = withLockAlarms rows (alarms .alarmed .last .1 .1 .0) (alarms .alarmed .last .1 .1 .1 .0) in
     let choice = choosing .chosen .ensures after (handed .follows) ∙ ap (λ (l : Inputs). chosen (busy (windowsOf (now (a .windows))) (k .place)) set l (choiceOf (k .choice))) inputs in
     let steering = turned .steered .ensures
-    ∙ (λ i. steered (auto .is-automatic .ensures i) (op .setting .ensures i) (ready .is-ready .ensures (now (a .sums)) (now (a .building)) (s .backup) i) selected (choice i .selected) (loop i)) in
+    ∙ (λ i. steered (auto .is-automatic .ensures i) (op .setting .ensures i) (ready .is-ready .ensures (now (a .sums)) (now (a .building)) (s .history .backup) i) selected (choice i .selected) (loop i)) in
     let holding = held .holding-after .ensures ∙ (λ i. holdingAfter (modeOf (k .pll .mode)) (steering i .mode) (k .holding)) in
     let tracked = kept .is-locked .ensures ∙ (λ i. is locked (steering i .mode)) in
-    let history = c .recorded .ensures (s .backup)
-    ∙ (λ i. recorded (kept .before .setting2 .ensures i) (choice i .selected) (tracked i) (toZ-ofZ (start .fits .x) i) (historyOf (k .tally) (now (a .sums)) (now (a .building)) (s .backup))) in
+    let history = c .recorded .ensures (s .history .backup)
+    ∙ (λ i. recorded (kept .before .setting2 .ensures i) (choice i .selected) (tracked i) (toZ-ofZ (start .fits .x) i) (historyOf (k .tally) (now (a .sums)) (now (a .building)) (s .history .backup))) in
     λ i.
     withInputs (inputs i)
     (withLoop (steering i)

@@ -24,9 +24,9 @@ returns c s =
     accepted _ _ hit (rw (← tested .before .is-tracked .ensures, tested .if1 .taken) refl) refl
     (λ i.
     withInputs (hitting .unsoak .ensures (s .monitors) i)
-    (withLoop ((loop .loop-after-hit .ensures ∙ ap unselectedLoop (ready .is-ready .ensures (s .sums) (s .building) (s .backup))) i)
+    (withLoop ((loop .loop-after-hit .ensures ∙ ap unselectedLoop (ready .is-ready .ensures (s .history .sums) (s .history .building) (s .history .backup))) i)
     (withChoice (c .before .settled .ensures i)
-    (withHistory (c .open-emptied .ensures (s .sums) (s .building) (s .backup) i) (withHolding 0 (meaning (withCore k s)))))))
+    (withHistory (c .open-emptied .ensures (s .history .sums) (s .history .building) (s .history .backup) i) (withHolding 0 (meaning (withCore k s)))))))
 
 returns-2 : tie.Need-returns-2
 unfolding refusal
