@@ -21,6 +21,7 @@ use arith::either;
 use arith::least;
 use arith::mask_of;
 use arith::wide16;
+use arith::wide32;
 use buckets::Row;
 use inputs::FULL_SOAK;
 use inputs::qualified_at;
@@ -125,7 +126,7 @@ fn is_unmasked(usable: u8, c: u32) -> bool
     }
     if c <= 8 {
         let k = c - 1;
-        return (usable >> k) % 2 == 1;
+        return (wide32(usable) >> k) % 2 == 1;
     }
     false
 }

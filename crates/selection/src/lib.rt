@@ -3,6 +3,8 @@
 // registers.
 ghost use mathlib.Core.Path.{_≡_};
 ghost use Prim.Native.Nat.{_-_};
+ghost use lib.Dec.{eqb};
+ghost use Rattle.rules.specs.Words.{if_then_else_};
 ghost use Rattle.rules.specs.Settings.{delay, reversion};
 ghost use Rattle.rules.specs.Week.{busy};
 ghost use Rattle.rules.specs.Selection as selection;
@@ -52,23 +54,25 @@ pub fn settled(c: u32) -> Choice
     }
 }
 
+// The ticks waited for `b` so far: none where the wait counts for another.
+fn waited(b: u32, c: Choice) -> u32
+    ensures { λ r. ⌜ r ≡ (if eqb (c .awaited) b then c .wait else 0) ⌝ }
+{
+    if c.awaited == b { c.wait } else { 0 }
+}
+
 // The rule `waitAfter`: the wait for `b` with this tick, in a window or not. In one a wait over n for the same best stays.
 fn wait_after(blocked: bool, n: u32, b: u32, c: Choice) -> u32
     ensures { λ r. ⌜ r ≡ waitAfter blocked n b (choiceOf c) ⌝ }
 {
-    if c.wait == 0 {
-        return 1;
-    }
-    if c.awaited == b {
-        if c.wait < WAIT_LIMIT {
-            if both(blocked, n < c.wait) {
-                return c.wait;
-            }
-            return c.wait + 1;
+    let so_far = waited(b, c);
+    if so_far < WAIT_LIMIT {
+        if both(blocked, n < so_far) {
+            return so_far;
         }
-        return WAIT_LIMIT;
+        return so_far + 1;
     }
-    1
+    WAIT_LIMIT
 }
 
 // One less, not below 0.
