@@ -115,6 +115,13 @@ returns-2 c =
           (u .ensures) (settled .ensures .0 made) (settled .ensures .1 .0 made) (ran .ensures),
     )
 
+-- the output's length is that of the rule
+same-length : tie.Need-same-length
+same-length c =
+    let begun = counted (c .before .before .before .before .before .before .before .before .before .before .before .before .before) in
+    let a = begun .before .before .before .before .before .args in
+    ap length (returns-2 c .1) ∙ outputs (now (a .sheet)) (now (a .out)) (zero (begun .before)) .kept
+
 pub run-into-spec : {M : Type 1} → statement M
 run-into-spec =
     tie.close
@@ -141,5 +148,5 @@ run-into-spec =
     run-events-requires
     add-result
     mul-result
-    (search needs)
+    same-length
     returns-2)
