@@ -65,6 +65,17 @@ struct unit_tally {
     uint8_t command; /* the last accepted command */
 };
 
+/* The history: the blocks in use, of which Ready, the value and command 1 speak, and beside them, while one builds, the history that is to replace them.
+ * What lies after the sums that are counted means nothing.
+ * Sums are written only where a block completes and by commands. A complete block goes to the front of the history that fills: the building one, or the sums
+ * in use while nothing builds; the 43rd building block copies building to sums. Command 1 copies sums to backup, 2 backup to sums; 2 and 3 set building to 0.
+ * A switch that starts building changes the tally alone. */
+struct unit_history {
+    int64_t sums[64];     /* the first core.tally.count: the block sums in use, newest first */
+    int64_t building[64]; /* the first core.tally.built: the building history's, newest first */
+    int64_t backup[64];   /* the first core.tally.backed: the backup's */
+};
+
 /* The selection. */
 struct unit_choice {
     uint32_t wait;     /* reversion wait in ticks */
@@ -88,20 +99,12 @@ struct unit_core {
     struct unit_loop pll;
 };
 
-/* The whole state. There is no padding in it: two units with the same fields have the same bytes, and a check sum over a stored unit is stable.
- *
- * The history is the blocks in use, of which Ready, the value and command 1 speak, and beside them, while one builds, the history that is to replace them.
- * What lies after the sums that are counted means nothing.
- * Sums are written only where a block completes and by commands. A complete block goes to the front of the history that fills: the building one, or the sums
- * in use while nothing builds; the 43rd building block copies building to sums. Command 1 copies sums to backup, 2 backup to sums; 2 and 3 set building to 0.
- * A switch that starts building changes the tally alone. */
+/* The whole state. There is no padding in it: two units with the same fields have the same bytes, and a check sum over a stored unit is stable. */
 struct unit {
     struct unit_core core;
     struct unit_monitors monitors;
     struct unit_buckets buckets;
-    int64_t sums[64];     /* the first core.tally.count: the block sums in use, newest first */
-    int64_t building[64]; /* the first core.tally.built: the building history's, newest first */
-    int64_t backup[64];   /* the first core.tally.backed: the backup's */
+    struct unit_history history;
     uint32_t windows[16]; /* start and end of each window in turn, and 0 and 0 where there is none; a pair whose start is not before its end is no window */
     uint8_t regs[32];     /* a byte for each register in address order, 0 for 0x26 and those that are read only; the five after them are 0 */
 };
@@ -110,6 +113,7 @@ CONTROLLER_ASSERT(sizeof(struct unit_monitors) == 96, "size of unit_monitors");
 CONTROLLER_ASSERT(sizeof(struct unit_set) == 4, "size of unit_set");
 CONTROLLER_ASSERT(sizeof(struct unit_buckets) == 32, "size of unit_buckets");
 CONTROLLER_ASSERT(sizeof(struct unit_tally) == 16, "size of unit_tally");
+CONTROLLER_ASSERT(sizeof(struct unit_history) == 1536, "size of unit_history");
 CONTROLLER_ASSERT(sizeof(struct unit_choice) == 12, "size of unit_choice");
 CONTROLLER_ASSERT(sizeof(struct unit_loop) == 12, "size of unit_loop");
 CONTROLLER_ASSERT(sizeof(struct unit_core) == 48, "size of unit_core");
@@ -136,6 +140,9 @@ CONTROLLER_ASSERT(offsetof(struct unit_tally, backed) == 12, "offset of backed")
 CONTROLLER_ASSERT(offsetof(struct unit_tally, builds) == 13, "offset of builds");
 CONTROLLER_ASSERT(offsetof(struct unit_tally, last) == 14, "offset of last");
 CONTROLLER_ASSERT(offsetof(struct unit_tally, command) == 15, "offset of command");
+CONTROLLER_ASSERT(offsetof(struct unit_history, sums) == 0, "offset of sums");
+CONTROLLER_ASSERT(offsetof(struct unit_history, building) == 512, "offset of building");
+CONTROLLER_ASSERT(offsetof(struct unit_history, backup) == 1024, "offset of backup");
 CONTROLLER_ASSERT(offsetof(struct unit_choice, wait) == 0, "offset of wait");
 CONTROLLER_ASSERT(offsetof(struct unit_choice, selected) == 4, "offset of selected");
 CONTROLLER_ASSERT(offsetof(struct unit_choice, awaited) == 8, "offset of awaited");
@@ -150,9 +157,7 @@ CONTROLLER_ASSERT(offsetof(struct unit_core, pll) == 36, "offset of pll");
 CONTROLLER_ASSERT(offsetof(struct unit, core) == 0, "offset of core");
 CONTROLLER_ASSERT(offsetof(struct unit, monitors) == 48, "offset of monitors");
 CONTROLLER_ASSERT(offsetof(struct unit, buckets) == 144, "offset of buckets");
-CONTROLLER_ASSERT(offsetof(struct unit, sums) == 176, "offset of sums");
-CONTROLLER_ASSERT(offsetof(struct unit, building) == 688, "offset of building");
-CONTROLLER_ASSERT(offsetof(struct unit, backup) == 1200, "offset of backup");
+CONTROLLER_ASSERT(offsetof(struct unit, history) == 176, "offset of history");
 CONTROLLER_ASSERT(offsetof(struct unit, windows) == 1712, "offset of windows");
 CONTROLLER_ASSERT(offsetof(struct unit, regs) == 1776, "offset of regs");
 
@@ -167,6 +172,8 @@ CONTROLLER_ASSERT(sizeof(struct unit_buckets) == CONTROLLER_FIELD(unit_buckets, 
 CONTROLLER_ASSERT(sizeof(struct unit_tally) == CONTROLLER_FIELD(unit_tally, open) + CONTROLLER_FIELD(unit_tally, filled) + CONTROLLER_FIELD(unit_tally, count) +
                   CONTROLLER_FIELD(unit_tally, built) + CONTROLLER_FIELD(unit_tally, backed) + CONTROLLER_FIELD(unit_tally, builds) +
                   CONTROLLER_FIELD(unit_tally, last) + CONTROLLER_FIELD(unit_tally, command), "padding in unit_tally");
+CONTROLLER_ASSERT(sizeof(struct unit_history) == CONTROLLER_FIELD(unit_history, sums) + CONTROLLER_FIELD(unit_history, building) +
+                  CONTROLLER_FIELD(unit_history, backup), "padding in unit_history");
 CONTROLLER_ASSERT(sizeof(struct unit_choice) == CONTROLLER_FIELD(unit_choice, wait) + CONTROLLER_FIELD(unit_choice, selected) +
                   CONTROLLER_FIELD(unit_choice, awaited), "padding in unit_choice");
 CONTROLLER_ASSERT(sizeof(struct unit_loop) == CONTROLLER_FIELD(unit_loop, unlock) + CONTROLLER_FIELD(unit_loop, mode) +
@@ -174,8 +181,7 @@ CONTROLLER_ASSERT(sizeof(struct unit_loop) == CONTROLLER_FIELD(unit_loop, unlock
 CONTROLLER_ASSERT(sizeof(struct unit_core) == CONTROLLER_FIELD(unit_core, tally) + CONTROLLER_FIELD(unit_core, choice) + CONTROLLER_FIELD(unit_core, holding) +
                   CONTROLLER_FIELD(unit_core, place) + CONTROLLER_FIELD(unit_core, pll), "padding in unit_core");
 CONTROLLER_ASSERT(sizeof(struct unit) == CONTROLLER_FIELD(unit, core) + CONTROLLER_FIELD(unit, monitors) + CONTROLLER_FIELD(unit, buckets) +
-                  CONTROLLER_FIELD(unit, sums) + CONTROLLER_FIELD(unit, building) + CONTROLLER_FIELD(unit, backup) + CONTROLLER_FIELD(unit, windows) +
-                  CONTROLLER_FIELD(unit, regs), "padding in unit");
+                  CONTROLLER_FIELD(unit, history) + CONTROLLER_FIELD(unit, windows) + CONTROLLER_FIELD(unit, regs), "padding in unit");
 
 /* The standard fresh unit: document 01's values in its registers. */
 struct unit unit_fresh(void);

@@ -79,6 +79,15 @@ without_padding! {
         pub command: u8,
     }
 
+    /// The block sums that the tally counts: the first `count` are in use, the
+    /// newest first; likewise the first `built` of the building history's, and the
+    /// first `backed` of the backup's.
+    pub struct History {
+        pub sums: [i64; 64],
+        pub building: [i64; 64],
+        pub backup: [i64; 64],
+    }
+
     /// What is selected, and the reversion wait for another.
     pub struct Choice {
         pub wait: u32,
@@ -103,18 +112,14 @@ without_padding! {
         pub pll: Loop,
     }
 
-    /// The whole state of a unit. The first `count` of the sums are in use, the
-    /// newest first; likewise the first `built` of the building history's, and the
-    /// first `backed` of the backup's. The windows are the start and end of each in
+    /// The whole state of a unit. The windows are the start and end of each in
     /// turn; a pair whose start is not before its end is none. After the registers
     /// are five bytes of 0.
     pub struct Unit {
         pub core: Core,
         pub monitors: Monitors,
         pub buckets: Buckets,
-        pub sums: [i64; 64],
-        pub building: [i64; 64],
-        pub backup: [i64; 64],
+        pub history: History,
         pub windows: [u32; 16],
         pub regs: [u8; 32],
     }
@@ -129,6 +134,7 @@ const _: () = {
     assert!(laid_out::<Set>(4, 1));
     assert!(laid_out::<Buckets>(32, 2));
     assert!(laid_out::<Tally>(16, 8));
+    assert!(laid_out::<History>(1536, 8));
     assert!(laid_out::<Choice>(12, 4));
     assert!(laid_out::<Loop>(12, 4));
     assert!(laid_out::<Core>(48, 8));

@@ -11,7 +11,8 @@ fn offset<T>(unit: &Unit, part: &T) -> usize {
 #[test]
 fn the_fields_lie_where_the_interface_says() {
     let unit = Unit::fresh();
-    let (core, monitors, buckets) = (&unit.core, &unit.monitors, &unit.buckets);
+    let (core, monitors) = (&unit.core, &unit.monitors);
+    let (buckets, history) = (&unit.buckets, &unit.history);
     let (tally, choice, pll, set) = (&core.tally, &core.choice, &core.pll, &buckets.sets[0]);
     let places = [
         ("open", offset(&unit, &tally.open), 0),
@@ -41,9 +42,9 @@ fn the_fields_lie_where_the_interface_says() {
         ("clear_level", offset(&unit, &set.clear_level), 146),
         ("decay_last", offset(&unit, &set.decay_last), 147),
         ("assigned", offset(&unit, &buckets.assigned), 160),
-        ("sums", offset(&unit, &unit.sums), 176),
-        ("building", offset(&unit, &unit.building), 688),
-        ("backup", offset(&unit, &unit.backup), 1200),
+        ("sums", offset(&unit, &history.sums), 176),
+        ("building", offset(&unit, &history.building), 688),
+        ("backup", offset(&unit, &history.backup), 1200),
         ("windows", offset(&unit, &unit.windows), 1712),
         ("regs", offset(&unit, &unit.regs), 1776),
     ];

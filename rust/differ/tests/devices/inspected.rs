@@ -63,16 +63,16 @@ impl Inspected {
 
     fn history_agrees(&self) -> bool {
         let (unit, history) = (&self.controller, &self.model.history);
-        let tally = &unit.core.tally;
+        let (tally, stored) = (&unit.core.tally, &unit.history);
         let none = Blocks::new();
         let building = history.building.as_ref();
         let backup = history.backup.as_ref();
         tally.open == history.open.sum
             && u32::from(tally.filled) == history.open.samples
             && (tally.builds != 0) == building.is_some()
-            && blocks_agree(&unit.sums, tally.count, &history.kept)
-            && blocks_agree(&unit.building, tally.built, building.unwrap_or(&none))
-            && blocks_agree(&unit.backup, tally.backed, backup.unwrap_or(&none))
+            && blocks_agree(&stored.sums, tally.count, &history.kept)
+            && blocks_agree(&stored.building, tally.built, building.unwrap_or(&none))
+            && blocks_agree(&stored.backup, tally.backed, backup.unwrap_or(&none))
             && tally.last == history.last_reference.unwrap_or(0)
             && tally.command == self.model.settings.command
     }
