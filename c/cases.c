@@ -280,8 +280,8 @@ static const uint8_t buyers_own[UNIT_REGISTERS] = {
     0, 0, 0, 0, 0, 0, 0, 0, 0, /* 0x46 to 0x4e */
 };
 
-/* The place of a register in a table. */
-static int table_place(int address)
+/* The slot of a register in a table. */
+static int table_slot(int address)
 {
     return address < 0x40 ? address - 0x1c : address - 0x40 + 12;
 }
@@ -308,7 +308,7 @@ static void refused_tables(void)
     expect_refused("#105 a byte more gives 15", &u, before, unit_load(&u, table, UNIT_REGISTERS + 1), 15);
     for (size_t i = 0; i < sizeof wrong / sizeof *wrong; i++) {
         memcpy(table, buyers_own, UNIT_REGISTERS);
-        table[table_place(wrong[i].address)] = wrong[i].value;
+        table[table_slot(wrong[i].address)] = wrong[i].value;
         expect_refused(wrong[i].what, &u, before, unit_load(&u, table, UNIT_REGISTERS), 15);
     }
 }

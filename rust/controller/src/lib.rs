@@ -14,15 +14,15 @@ use std::mem::{align_of, size_of};
 /// How many registers there are.
 pub const REGISTERS: usize = 27;
 
-/// The place of a register in a table and in `Unit::regs`, which have them in
+/// The slot of a register in a table and in `Unit::regs`, which have them in
 /// address order; None if the address is not in the map.
-pub fn register_place(address: u8) -> Option<usize> {
-    let place = match address {
+pub fn register_slot(address: u8) -> Option<usize> {
+    let slot = match address {
         0x1c..=0x27 => address - 0x1c,
         0x40..=0x4e => address - 0x40 + 12,
         _ => return None,
     };
-    Some(usize::from(place))
+    Some(usize::from(slot))
 }
 
 /// Structs as the library has them. No byte is in no field, so that two with the

@@ -1,7 +1,7 @@
 //! The places of the fields in the structs that the library shares, and a
 //! first word with the library.
 
-use controller::{register_place, Set, Unit, REGISTERS};
+use controller::{register_slot, Set, Unit, REGISTERS};
 
 /// The distance of a part of the unit from its beginning.
 fn offset<T>(unit: &Unit, part: &T) -> usize {
@@ -53,19 +53,19 @@ fn the_fields_lie_where_the_interface_says() {
     }
 }
 
-/// The addresses that can be read have the places one after the other.
+/// The addresses that can be read have the slots one after the other.
 #[test]
-fn each_register_has_its_place() {
+fn each_register_has_its_slot() {
     let unit = Unit::fresh();
-    let mut places = 0..REGISTERS;
+    let mut slots = 0..REGISTERS;
     for address in 0..=255 {
         let expected = match unit.read(address).0 {
-            0 => places.next(),
+            0 => slots.next(),
             _ => None,
         };
-        assert_eq!(register_place(address), expected, "{:#04x}", address);
+        assert_eq!(register_slot(address), expected, "{:#04x}", address);
     }
-    assert_eq!(places.next(), None);
+    assert_eq!(slots.next(), None);
 }
 
 /// Fresh bytes, a refusal, and an accepted write, through the library.

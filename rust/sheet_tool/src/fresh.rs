@@ -4,7 +4,7 @@
 
 use crate::make::Fault;
 use crate::registers;
-use controller::{reason, register_place, Unit, REGISTERS};
+use controller::{reason, register_slot, Unit, REGISTERS};
 
 /// The word of the statement.
 pub const TABLE: &str = "table";
@@ -33,54 +33,52 @@ pub fn loading(entries: &[Entry]) -> Result<Vec<u8>, Fault> {
     if refusal == 0 {
         return Ok(values);
     }
-    let places = places_at_fault(&values);
-    let first = places.first().copied();
-    let line = first.map_or(entries.last(), |place| entries.get(place));
+    let slots = slots_at_fault(&values);
+    let first = slots.first().copied();
+    let line = first.map_or(entries.last(), |slot| entries.get(slot));
     Err(Fault {
         line: line.map_or(1, |entry| entry.line),
         reason: format!(
             "table refused with {}: {} ({})",
             refusal,
             reason(refusal),
-            told(&values, &places)
+            told(&values, &slots)
         ),
     })
 }
 
 /// The values at fault by their registers, or, if there are none, the length.
-fn told(values: &[u8], places: &[usize]) -> String {
+fn told(values: &[u8], slots: &[usize]) -> String {
     let names: Vec<_> = registers::all().map(|(_, name)| name).collect();
-    let value = |&place: &usize| format!("{} {}", names[place], values[place]);
-    match places {
+    let value = |&slot: &usize| format!("{} {}", names[slot], values[slot]);
+    match slots {
         [] => format!("length {}", values.len()),
-        places => places.iter().map(value).collect::<Vec<_>>().join(", "),
+        slots => slots.iter().map(value).collect::<Vec<_>>().join(", "),
     }
 }
 
-/// The places whose values do not load, each alone in a table that else does;
+/// The slots whose values do not load, each alone in a table that else does;
 /// and the two limits, if they do not load together. None if the length is
 /// wrong.
-fn places_at_fault(values: &[u8]) -> Vec<usize> {
+fn slots_at_fault(values: &[u8]) -> Vec<usize> {
     let others = others();
     if values.len() != others.len() {
         return vec![];
     }
-    let at_fault = |places: &[usize]| {
+    let at_fault = |slots: &[usize]| {
         let mut table = others.clone();
-        places
-            .iter()
-            .for_each(|&place| table[place] = values[place]);
+        slots.iter().for_each(|&slot| table[slot] = values[slot]);
         Unit::fresh().load(&table) != 0
     };
-    let mut places: Vec<_> = (0..values.len())
-        .filter(|&place| at_fault(&[place]))
+    let mut slots: Vec<_> = (0..values.len())
+        .filter(|&slot| at_fault(&[slot]))
         .collect();
-    let limits = ["reject", "qualification"].map(place);
-    if at_fault(&limits) && !limits.iter().any(|limit| places.contains(limit)) {
-        places.extend(limits);
-        places.sort_unstable();
+    let limits = ["reject", "qualification"].map(slot);
+    if at_fault(&limits) && !limits.iter().any(|limit| slots.contains(limit)) {
+        slots.extend(limits);
+        slots.sort_unstable();
     }
-    places
+    slots
 }
 
 /// A table that loads, with limits that are as far apart as can be, so that
@@ -88,7 +86,7 @@ fn places_at_fault(values: &[u8]) -> Vec<usize> {
 fn others() -> Vec<u8> {
     let with_reject = |reject| {
         let mut table = vec![0; REGISTERS];
-        table[place("reject")] = reject;
+        table[slot("reject")] = reject;
         table
     };
     let mut tables = (0..=255).rev().map(with_reject);
@@ -96,8 +94,8 @@ fn others() -> Vec<u8> {
     found.expect("a table that loads")
 }
 
-/// The place of a register in a table.
-fn place(name: &str) -> usize {
-    let place = registers::address(name).and_then(register_place);
-    place.expect("a register's name")
+/// The slot of a register in a table.
+fn slot(name: &str) -> usize {
+    let slot = registers::address(name).and_then(register_slot);
+    slot.expect("a register's name")
 }

@@ -1,6 +1,6 @@
 //! The registers by name, as the text writes them for an address.
 
-use controller::{register_place, REGISTERS};
+use controller::{register_slot, REGISTERS};
 
 /// In address order.
 const NAMES: [&str; REGISTERS] = [
@@ -46,5 +46,5 @@ pub fn address(name: &str) -> Option<u8> {
 
 /// None if the address is not in the map.
 pub fn name(address: u8) -> Option<&'static str> {
-    register_place(address).map(|place| NAMES[place])
+    register_slot(address).map(|slot| NAMES[slot])
 }

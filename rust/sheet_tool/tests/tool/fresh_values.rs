@@ -3,7 +3,7 @@
 
 use crate::hosts::{check_failed, check_fault, check_no_sheet, host};
 use crate::process::sheet_with;
-use crate::random::{self, place};
+use crate::random::{self, slot};
 use crate::same_records::check_host;
 use crate::xml::texts;
 use controller::{Unit, REGISTERS};
@@ -25,7 +25,7 @@ const COUNT: u8 = 0x4e;
 /// The standard table with other values of these registers.
 fn table(values: &[(u8, u8)]) -> [u8; REGISTERS] {
     let mut table = STANDARD;
-    let set = |&(address, value): &(u8, u8)| table[place(address)] = value;
+    let set = |&(address, value): &(u8, u8)| table[slot(address)] = value;
     values.iter().for_each(set);
     table
 }
@@ -154,19 +154,19 @@ fn all_values_at_fault_are_named() {
         };
         let (_, told) = reason.rsplit_once('(').expect("what is at fault");
         let mut repaired = values;
-        let limits = [REJECT, QUALIFICATION].map(place);
+        let limits = [REJECT, QUALIFICATION].map(slot);
         for named in told.trim_end_matches(')').split(", ") {
             let (name, value) = named.split_once(' ').expect("a name and a value");
-            let place = place(address(name).expect("a register's name"));
-            assert_eq!(values[place].to_string(), value);
-            let at_fault = match limits.contains(&place) {
+            let slot = slot(address(name).expect("a register's name"));
+            assert_eq!(values[slot].to_string(), value);
+            let at_fault = match limits.contains(&slot) {
                 true => &limits[..],
-                false => &[place],
+                false => &[slot],
             };
             let mut alone = STANDARD;
-            for &place in at_fault {
-                alone[place] = values[place];
-                repaired[place] = STANDARD[place];
+            for &slot in at_fault {
+                alone[slot] = values[slot];
+                repaired[slot] = STANDARD[slot];
             }
             assert_eq!(Unit::fresh().load(&alone), 15, "{}", named);
         }

@@ -2,7 +2,7 @@
 //! all kinds, in runs of equal ones, also such as the unit turns down; tables
 //! that load.
 
-use controller::{register_place, HIT, MEASUREMENT, REGISTERS, TICK, WRITE};
+use controller::{register_slot, HIT, MEASUREMENT, REGISTERS, TICK, WRITE};
 use shared::random::Random;
 use sheet_tool::event::Event;
 use sheet_tool::sheet::Sheet;
@@ -19,7 +19,7 @@ pub fn sheet(random: &mut Random, settings: usize, events: usize) -> Sheet {
 /// A table that loads, of a unit in automatic control more often than not.
 pub fn table(random: &mut Random) -> Vec<u8> {
     let mut table = vec![0; REGISTERS];
-    let mut set = |address, value| table[place(address)] = value;
+    let mut set = |address, value| table[slot(address)] = value;
     (0x1c..=0x23).for_each(|address| set(address, random.byte()));
     set(0x24, random.pick(&[0, 0, 0x11, 0x1f]));
     set(0x25, random.below(2) as u8);
@@ -34,9 +34,9 @@ pub fn table(random: &mut Random) -> Vec<u8> {
     table
 }
 
-/// The place of a register in a table.
-pub fn place(address: u8) -> usize {
-    register_place(address).expect("a register")
+/// The slot of a register in a table.
+pub fn slot(address: u8) -> usize {
+    register_slot(address).expect("a register")
 }
 
 /// So many items: half of the runs are of one, a few of many.
