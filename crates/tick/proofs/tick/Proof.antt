@@ -22,7 +22,7 @@ use Rattle.history.specs.Bridge.{historyOf}
 use Rattle.pll.specs.Bridge.{modeOf}
 use Rattle.week.specs.Bridge.{windowsOf, weekOf}
 use Rattle.selection.specs.Bridge.{choiceOf}
-use Rattle.state.specs.Stored.{meaning, withRegisters}
+use Rattle.state.specs.Stored.{meaning, withCore, withRegisters}
 use Rattle.tick.proofs.tick.Statement.{statement}
 use Rattle.tick.proofs.tick.Tie as tie
 
@@ -87,7 +87,7 @@ returns c s handed =
     (withChoice (choice i)
     (withHistory (history i)
     (withHolding (holding i)
-    (withWeek (weekOf (placed .advanced .ensures i) (now (a .windows))) (meaning (withRegisters (now (a .regs)) s)))))))
+    (withWeek (weekOf (placed .advanced .ensures i) (now (a .windows))) (meaning (withCore k (withRegisters (now (a .regs)) s))))))))
 
 pub tick-spec : {M : Type 1} → statement M
 tick-spec =
