@@ -29,7 +29,7 @@ extern "C" {
 /* How many registers there are: 0x1c to 0x27 and 0x40 to 0x4e. */
 #define UNIT_REGISTERS 27
 
-/* The monitors, a row for each number: place i - 1 is input i. An alarm is 0 or 1. */
+/* The monitors, a row for each number: element i - 1 is input i. An alarm is 0 or 1. */
 struct unit_monitors {
     uint16_t level[8];     /* activity bucket: its level */
     uint16_t decay[8];     /* activity bucket: its decay count */
@@ -47,7 +47,7 @@ struct unit_set {
     uint8_t decay_last;  /* the last decay count: the clean tick after it takes 1 off the level; 0, 1, 3 or 7 */
 };
 
-/* The four sets: place n is set n. And the set that each input has: place i - 1 is input i. */
+/* The four sets: element n is set n. And the set that each input has: element i - 1 is input i. */
 struct unit_buckets {
     struct unit_set sets[4];
     uint16_t assigned[8]; /* an input's set, 0 to 3 */

@@ -36,7 +36,7 @@ impl Table {
 
     /// With another value at an address of the map.
     pub fn with(mut self, address: u8, value: u8) -> Table {
-        self.bytes[place(address)] = value;
+        self.bytes[slot(address)] = value;
         self
     }
 
@@ -46,7 +46,7 @@ impl Table {
 
     /// The value at an address of the map.
     pub fn value(&self, address: u8) -> u8 {
-        self.bytes[place(address)]
+        self.bytes[slot(address)]
     }
 
     pub fn bytes(&self) -> Vec<u8> {
@@ -71,10 +71,10 @@ impl Table {
     }
 }
 
-/// The place of an address of the map in a table.
-pub fn place(address: u8) -> usize {
-    let place = table_addresses().position(|other| other == address);
-    place.expect("an address of the map")
+/// The slot of an address of the map in a table.
+pub fn slot(address: u8) -> usize {
+    let slot = table_addresses().position(|other| other == address);
+    slot.expect("an address of the map")
 }
 
 impl fmt::Display for Table {

@@ -8,7 +8,7 @@
 //! them, in the test of the controller's fields.
 
 use crate::faults::*;
-use differ::table::place;
+use differ::table::slot;
 use model::{BucketSet, Input, State, Unit, REGISTERS, SOAK_TICKS};
 
 /// Takes another table in place of this, if it has a byte for each register.
@@ -32,13 +32,13 @@ fn of_length<const LENGTH: usize>(unit: &mut Unit, table: &[u8]) -> u8 {
 
 /// Lets any value stand at an address that must have 0.
 fn let_stand<const ADDRESS: u8>(unit: &mut Unit, table: &[u8]) -> u8 {
-    load_other(unit, table, |table| table[place(ADDRESS)] = 0)
+    load_other(unit, table, |table| table[slot(ADDRESS)] = 0)
 }
 
 /// Lets a value stand that is one above the largest, as the largest.
 fn one_more<const ADDRESS: u8, const LARGEST: u8>(unit: &mut Unit, table: &[u8]) -> u8 {
     load_other(unit, table, |table| {
-        let value = &mut table[place(ADDRESS)];
+        let value = &mut table[slot(ADDRESS)];
         if *value == LARGEST + 1 {
             *value = LARGEST;
         }
@@ -48,7 +48,7 @@ fn one_more<const ADDRESS: u8, const LARGEST: u8>(unit: &mut Unit, table: &[u8])
 /// Loads limits that are this far apart and should not be.
 fn load_limits(unit: &mut Unit, table: &[u8], apart: impl Fn(i16) -> bool) -> u8 {
     let mut other = table.to_vec();
-    let limits = (place(0x44), place(0x45));
+    let limits = (slot(0x44), slot(0x45));
     if other.len() != REGISTERS || other[limits.0] > 127 || other[limits.1] > 127 {
         return unit.load(table);
     }
@@ -80,7 +80,7 @@ fn by_writes(unit: &mut Unit, table: &[u8]) -> u8 {
     }
     let mut written = Unit::fresh();
     for address in (0x1c..=0x25).chain(0x40..=0x45) {
-        let value = table[place(address)];
+        let value = table[slot(address)];
         if written.event(&model::Event::Write { address, value }) != 0 {
             return 15;
         }
@@ -149,7 +149,7 @@ pub static FAULTS: &[Fault] = &[
     in_load("any command let stand", let_stand::<0x26>),
     in_load("the command loaded", |unit, table| {
         let mut other = table.to_vec();
-        let command = match other.get_mut(place(0x26)) {
+        let command = match other.get_mut(slot(0x26)) {
             Some(command) if *command <= 3 => std::mem::take(command),
             _ => 0,
         };
@@ -162,7 +162,7 @@ pub static FAULTS: &[Fault] = &[
     in_load("128 let stand at 0x44", one_more::<0x44, 127>),
     in_load("any control but 0 is automatic", |unit, table| {
         load_other(unit, table, |table| {
-            table[place(0x40)] = table[place(0x40)].min(1)
+            table[slot(0x40)] = table[slot(0x40)].min(1)
         })
     }),
     in_load("limits 5 apart load", |unit, table| {
@@ -177,13 +177,13 @@ pub static FAULTS: &[Fault] = &[
     ),
     in_load("limits 6 apart refused", |unit, table| {
         refuse_if(unit, table, |table| {
-            table[place(0x44)].wrapping_sub(table[place(0x45)]) == 6
+            table[slot(0x44)].wrapping_sub(table[slot(0x45)]) == 6
         })
     }),
     in_load("loaded by writes, one by one", by_writes),
     in_load("limits checked beside those before", |unit, table| {
         let qualification = unit.settings.qualification;
-        match table.get(place(0x44)) {
+        match table.get(slot(0x44)) {
             Some(&reject) if reject < qualification + 6 => 15,
             _ => unit.load(table),
         }
@@ -194,7 +194,7 @@ pub static FAULTS: &[Fault] = &[
         })
     }),
     in_load("bits 7-4 dropped at 0x24 too", |unit, table| {
-        load_other(unit, table, |table| table[place(0x24)] &= 0x0f)
+        load_other(unit, table, |table| table[slot(0x24)] &= 0x0f)
     }),
     in_load("an input above 15 refused", |unit, table| {
         refuse_if(unit, table, |table| {
@@ -202,10 +202,10 @@ pub static FAULTS: &[Fault] = &[
         })
     }),
     in_load("a mask of 0 refused", |unit, table| {
-        refuse_if(unit, table, |table| table[place(0x42)] == 0)
+        refuse_if(unit, table, |table| table[slot(0x42)] == 0)
     }),
     in_load("Op_Mode 9 refused", |unit, table| {
-        refuse_if(unit, table, |table| table[place(0x41)] == 9)
+        refuse_if(unit, table, |table| table[slot(0x41)] == 9)
     }),
     in_load("a second table refused", |unit, table| {
         match *unit == Unit::fresh() {
@@ -217,13 +217,13 @@ pub static FAULTS: &[Fault] = &[
         load_other(unit, table, |table| table[..8].rotate_left(1))
     }),
     in_load("the bytes from 0x40 on one later", |unit, table| {
-        load_other(unit, table, |table| table[place(0x40)..].rotate_right(1))
+        load_other(unit, table, |table| table[slot(0x40)..].rotate_right(1))
     }),
     in_load("0x1c and 0x40 the other way round", |unit, table| {
-        load_other(unit, table, |table| table.rotate_left(place(0x40)))
+        load_other(unit, table, |table| table.rotate_left(slot(0x40)))
     }),
     in_load("reject and qualification swapped", |unit, table| {
-        load_other(unit, table, |table| table.swap(place(0x44), place(0x45)))
+        load_other(unit, table, |table| table.swap(slot(0x44), slot(0x45)))
     }),
     in_load("always the standard values", |unit, table| {
         then_after_load(unit, table, |_, after| *after = Unit::fresh())
@@ -239,17 +239,17 @@ pub static FAULTS: &[Fault] = &[
     }),
     in_load("3 for a value above the largest", |unit, table| {
         answer_with(unit, table, 3, |table| {
-            has_all_bytes(table) && table[place(0x40)] > 1
+            has_all_bytes(table) && table[slot(0x40)] > 1
         })
     }),
     in_load("4 for limits too close", |unit, table| {
         answer_with(unit, table, 4, |table| {
-            has_all_bytes(table) && table[place(0x44)] < table[place(0x45)].saturating_add(6)
+            has_all_bytes(table) && table[slot(0x44)] < table[slot(0x45)].saturating_add(6)
         })
     }),
     in_load("2 for a read-only register", |unit, table| {
         answer_with(unit, table, 2, |table| {
-            has_all_bytes(table) && table[place(0x46)..].iter().any(|&byte| byte > 0)
+            has_all_bytes(table) && table[slot(0x46)..].iter().any(|&byte| byte > 0)
         })
     }),
     in_load("10 for a table that ends early", |unit, table| {
