@@ -82,6 +82,15 @@ static int frequency_alarm(const struct unit *u, int input)
     return u->monitors.frequency[input - 1];
 }
 
+/* unit_fresh makes its unit over bytes of 0. */
+static void making(void)
+{
+    struct unit u, fresh = unit_fresh();
+    memset(&u, 0xff, sizeof u);
+    unit_make(&u);
+    expect("unit_make over bytes of 0xff gives the bytes of unit_fresh", memcmp(&u, &fresh, sizeof u), 0);
+}
+
 static void activity(void)
 {
     struct unit u = unit_fresh();
@@ -509,6 +518,7 @@ static void longest_wait(void)
 
 int main(void)
 {
+    making();
     activity();
     frequency();
     limits();

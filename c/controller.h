@@ -1,12 +1,11 @@
 /* The reference controller of the eight-input timing unit, for a host in C. Three libraries, of which a program links those that it uses:
- *   libhost.a:  unit_fresh, unit_load, unit_event, unit_read, unit_set_bucket, unit_assign_bucket, unit_set_week, unit_set_windows
+ *   libhost.a:  unit_make, unit_load, unit_event, unit_read, unit_set_bucket, unit_assign_bucket, unit_set_week, unit_set_windows
  *   librun.a:   sheet_check, sheet_run
  *   libprint.a: sheet_print
  *
- * The host owns a unit's state. It makes one with unit_fresh, and may make it anew with fresh values of its own by unit_load; it lends it to unit_event for
- * each event, to unit_set_bucket and unit_assign_bucket for other numbers of the activity buckets, to unit_set_week and unit_set_windows for the busy hours,
- * and to unit_read for each read, and writes it by nothing else. A tick is 128 ms. Documents 01 and 02 say what each event and call does and what each
- * register shows.
+ * The host owns a unit's state. It makes it fresh by unit_make, or with fresh values of its own by unit_load; it lends it to unit_event for each event, to
+ * unit_set_bucket and unit_assign_bucket for other numbers of the activity buckets, to unit_set_week and unit_set_windows for the busy hours, and to unit_read
+ * for each read, and writes it by nothing else. A tick is 128 ms. Documents 01 and 02 say what each event and call does and what each register shows.
  *
  * The interface is the registers, by unit_read, and the records and pages of a run sheet. The fields of struct unit are for the eye: they may change from one
  * version to the next, and what is said of them here holds of a unit that is kept so.
@@ -16,6 +15,7 @@
 
 #include <stddef.h>
 #include <stdint.h>
+#include <string.h>
 
 #ifdef __cplusplus
 #define CONTROLLER_ASSERT(test, text) static_assert(test, text)
@@ -183,11 +183,21 @@ CONTROLLER_ASSERT(sizeof(struct unit_core) == CONTROLLER_FIELD(unit_core, tally)
 CONTROLLER_ASSERT(sizeof(struct unit) == CONTROLLER_FIELD(unit, core) + CONTROLLER_FIELD(unit, monitors) + CONTROLLER_FIELD(unit, buckets) +
                   CONTROLLER_FIELD(unit, history) + CONTROLLER_FIELD(unit, windows) + CONTROLLER_FIELD(unit, regs), "padding in unit");
 
-/* The standard fresh unit: document 01's values in its registers. */
-struct unit unit_fresh(void);
+/* Makes the lent unit the standard fresh one: document 01's values in its registers. What the unit held before plays no part, but its bytes must have been
+ * written. */
+void unit_make(struct unit *u);
+
+/* The standard fresh unit as a value. Its bytes are written first, as unit_make asks. */
+static inline struct unit unit_fresh(void)
+{
+    struct unit u;
+    memset(&u, 0, sizeof u);
+    unit_make(&u);
+    return u;
+}
 
 /* Makes the lent unit anew, as a fresh one with the values of the table in its registers: the refusal number, 15 or 0. What the unit held before plays no
- * part: it need not be one that unit_fresh made, but its bytes must have been written.
+ * part, but its bytes must have been written.
  *   table: a byte for each register in address order, 0x1c to 0x27 and then 0x40 to 0x4e; 0 for the command 0x26 and for those that are read only
  *   len:   UNIT_REGISTERS
  * Bits 7-4 of 0x1c to 0x23 are dropped. All else is as in any fresh unit, bucket sets, week and windows, history and backup too: it is in Free Run with

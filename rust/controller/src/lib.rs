@@ -9,7 +9,7 @@ mod words;
 
 pub use words::{reason, FINER_MEASUREMENT, HIT, MEASUREMENT, STATES, TICK, WRITE};
 
-use std::mem::{align_of, size_of};
+use std::mem::{align_of, size_of, zeroed};
 
 /// How many registers there are.
 pub const REGISTERS: usize = 27;
@@ -142,7 +142,7 @@ const _: () = {
 };
 
 extern "C" {
-    fn unit_fresh() -> Unit;
+    fn unit_make(unit: *mut Unit);
     fn unit_event(unit: *mut Unit, kind: u8, a: u8, b: u8, word: i32) -> u8;
     fn unit_set_bucket(
         unit: *mut Unit,
@@ -160,9 +160,18 @@ extern "C" {
 }
 
 impl Unit {
+    /// The standard fresh unit.
     pub fn fresh() -> Unit {
-        // SAFETY: the function takes nothing and returns the struct by value.
-        unsafe { unit_fresh() }
+        // SAFETY: the fields are numbers and arrays of them, and 0 is a number.
+        let mut unit: Unit = unsafe { zeroed() };
+        unit.make();
+        unit
+    }
+
+    /// Makes the unit the standard fresh one, whatever it held before.
+    pub fn make(&mut self) {
+        // SAFETY: the pointer is to a whole unit, lent for the call alone.
+        unsafe { unit_make(self) }
     }
 
     /// The refusal's number, 0 if accepted, 12 if the fields are no event. A

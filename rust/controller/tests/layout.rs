@@ -68,7 +68,8 @@ fn each_register_has_its_slot() {
     assert_eq!(slots.next(), None);
 }
 
-/// Fresh bytes, a refusal, and an accepted write, through the library.
+/// Fresh bytes, a refusal, an accepted write, and a unit made fresh again, through
+/// the library.
 #[test]
 fn the_library_answers() {
     let mut unit = Unit::fresh();
@@ -80,6 +81,8 @@ fn the_library_answers() {
     assert_eq!(unit, before);
     assert_eq!(unit.event(3, 0x40, 1, 0), 0);
     assert_eq!(unit.read(0x40), (0, 1));
+    unit.make();
+    assert_eq!(unit, Unit::fresh());
 }
 
 /// The sets of a fresh unit, the two calls and their refusals, through the

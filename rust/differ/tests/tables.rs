@@ -166,7 +166,7 @@ fn random_tables() {
     check_random_tables(&inspected::Inspected::fresh_pair());
 }
 
-/// The whole unit is that of `unit_fresh`, but for the registers, whatever its
+/// The whole unit is the standard fresh one, but for the registers, whatever its
 /// bytes were before.
 #[test]
 #[cfg(feature = "controller")]

@@ -13,6 +13,7 @@ use std::mem::size_of;
 pub const SIZE: usize = size_of::<Unit>();
 
 extern "C" {
+    fn unit_make(unit: *mut u8);
     fn unit_event(unit: *mut u8, kind: u8, a: u8, b: u8, word: i32) -> u8;
     fn unit_set_bucket(
         unit: *mut u8,
@@ -42,7 +43,7 @@ impl Held {
         };
         for unit in &mut held.units {
             // SAFETY: the bytes are as many as a unit has, and aligned to 8.
-            unsafe { unit.as_mut_ptr().cast::<Unit>().write(Unit::fresh()) };
+            unsafe { unit_make(unit.as_mut_ptr()) };
         }
         assert!(held.units[0] == held.units[1], "two fresh units");
         held
