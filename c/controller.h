@@ -249,7 +249,9 @@ uint8_t unit_set_week(struct unit *u, uint32_t place);
  * not overlap. */
 uint8_t unit_set_windows(struct unit *u, uint8_t count, const uint32_t windows[16]);
 
-/* A read of the lent unit: 256 times the refusal, plus the byte. */
+/* A read of the lent unit: 256 times the refusal, plus the byte.
+ * Each read of 0x4a to 0x4d computes the value anew and gives one byte of it. All four are of one moment if no event or call on the unit comes between the
+ * reads. Where other threads or interrupts use the unit, the host holds them off meanwhile, or holds them off for a copy of the unit and reads from that. */
 uint16_t unit_read(const struct unit *u, uint8_t address);
 
 /* Checks a run sheet of len bytes against an output of output_len bytes: its refusal number, 9 to 13, or 0 if it will run. */
