@@ -58,7 +58,7 @@ impl Measured for fast::Unit {
     }
 
     fn send(&mut self, fields: Fields) -> u8 {
-        fields.event().map_or(12, |event| self.event(&event))
+        self.event_fields(fields.kind, fields.a, fields.b, fields.word)
     }
 
     fn alarms(&self) -> [bool; 8] {

@@ -5,6 +5,7 @@
 
 mod buckets;
 mod pages;
+mod reading;
 mod reversion;
 
 pub use buckets::Sets;
@@ -151,10 +152,13 @@ impl Blocks {
         self.count = (self.count + 1).min(BLOCKS_KEPT);
     }
 
-    /// The sums, the oldest first.
+    /// The sums, the oldest first: those at the ring's end, then those in front
+    /// of the next place.
     pub fn iter(&self) -> impl Iterator<Item = i64> + '_ {
-        let oldest = self.next + BLOCKS_KEPT - self.count;
-        (oldest..oldest + self.count).map(|place| self.sums[place % BLOCKS_KEPT])
+        let at_end = self.count.saturating_sub(self.next);
+        let older = &self.sums[BLOCKS_KEPT - at_end..];
+        let newer = &self.sums[self.next - (self.count - at_end)..self.next];
+        older.iter().chain(newer).copied()
     }
 }
 
@@ -306,6 +310,14 @@ impl Unit {
         number_of(self.take(event))
     }
 
+    /// Takes the fields of one event; 12 if they are no event.
+    pub fn event_fields(&mut self, kind: u8, a: u8, b: u8, word: i32) -> u8 {
+        match Event::from_fields(kind, a, b, word) {
+            Some(event) => self.event(&event),
+            None => Refusal::NoEvent.number(),
+        }
+    }
+
     /// Takes one call: 0, or the number of its refusal.
     pub fn call(&mut self, call: &Call) -> u8 {
         let buckets = self.sets.buckets;
@@ -418,8 +430,8 @@ impl Unit {
     }
 
     fn automatic_choice(&mut self) -> u8 {
-        let available = u16::from(self.monitors.qualified & self.settings.mask);
-        let candidates = available | u16::from(self.settings.free_run_enabled()) << 8;
+        let free_run = u16::from(self.settings.free_run_enabled()) << 8;
+        let candidates = u16::from(self.available()) | free_run;
         let best = self.best_of(candidates);
         // Bit 0 for input 1 to bit 8 for Free Run, none for 0.
         let selected_bit = (1 << self.selected) >> 1;
@@ -428,6 +440,10 @@ impl Unit {
         }
         self.wait
             .stay_or_revert(self.selected, best, &self.settings, &self.week)
+    }
+
+    fn available(&self) -> u8 {
+        self.monitors.qualified & self.settings.mask
     }
 
     fn best_of(&self, candidates: u16) -> u8 {

@@ -2,7 +2,7 @@
 
 use differ::device::Device;
 use differ::table::Table;
-use model::{fast, Blocks, Call, Event, History, Input, OpenBlock, Unit};
+use model::{fast, Blocks, Call, History, Input, OpenBlock, Unit};
 
 /// The tuned model with a plain one beside it. An event, call or table after
 /// which they do not agree is answered by a refusal that there is not.
@@ -78,12 +78,8 @@ impl Device for Beside {
     }
 
     fn event(&mut self, kind: u8, a: u8, b: u8, word: i32) -> u8 {
-        let event = match Event::from_fields(kind, a, b, word) {
-            Some(event) => event,
-            None => return 12,
-        };
-        self.plain.event(&event);
-        let refusal = self.tuned.event(&event);
+        self.plain.event_fields(kind, a, b, word);
+        let refusal = self.tuned.event_fields(kind, a, b, word);
         self.answer(refusal)
     }
 
@@ -101,6 +97,6 @@ impl Device for Beside {
     }
 
     fn read(&self, address: u8) -> (u8, u8) {
-        self.plain.read(address)
+        self.tuned.read(address)
     }
 }
