@@ -1,7 +1,7 @@
-//! Instructions an event, counted by valgrind's callgrind: this program is
-//! started again under it, to run or print one sheet a few times.
+//! Instructions, counted by valgrind's callgrind: this program is started again
+//! under it, to do one task with one list a few times.
 
-use crate::lists::EVENTS;
+use crate::lists::List;
 use crate::runners::{Outputs, Runner, Task};
 use std::process::Command;
 
@@ -15,22 +15,23 @@ pub fn possible() -> bool {
     version.map_or(false, |output| output.status.success())
 }
 
-/// The instructions of a runner's task with the sheet of this name.
-pub fn instructions(runner: &Runner, task: Task, sheet: &str) -> f64 {
-    let few = count(runner, task, sheet, REPEATS);
-    let many = count(runner, task, sheet, 2 * REPEATS);
-    (many - few) as f64 / (REPEATS * EVENTS) as f64
+/// The instructions of a part of a runner's task with the list of this name.
+pub fn instructions(runner: &Runner, task: Task, list: &str) -> f64 {
+    let few = count(runner, task, list, REPEATS);
+    let many = count(runner, task, list, 2 * REPEATS);
+    let (parts, _) = task.parts();
+    (many - few) as f64 / (REPEATS * parts) as f64
 }
 
 /// The instructions of a whole process with so many repeats.
-fn count(runner: &Runner, task: Task, sheet: &str, repeats: usize) -> u64 {
+fn count(runner: &Runner, task: Task, list: &str, repeats: usize) -> u64 {
     let file = std::env::temp_dir().join(format!("bench-callgrind-{}", std::process::id()));
     let program = std::env::current_exe().expect("the path of this program");
     let output = Command::new("valgrind")
         .arg("--tool=callgrind")
         .arg(format!("--callgrind-out-file={}", file.display()))
         .arg(program)
-        .args(["--count", runner.name, task.name(), sheet])
+        .args(["--count", runner.name, task.name(), list])
         .arg(repeats.to_string())
         .output()
         .expect("valgrind");
@@ -44,9 +45,8 @@ fn count(runner: &Runner, task: Task, sheet: &str, repeats: usize) -> u64 {
 }
 
 /// The process that is counted.
-pub fn repeat(runner: &Runner, task: Task, sheet: &[u8], repeats: usize) {
+pub fn repeat(runner: &Runner, task: Task, list: &List, repeats: usize) {
+    let mut work = runner.work(task, list);
     let mut outputs = Outputs::empty();
-    for _ in 0..repeats {
-        runner.work(task, sheet, &mut outputs);
-    }
+    (0..repeats).for_each(|_| work(&mut outputs));
 }

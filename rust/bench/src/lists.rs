@@ -1,21 +1,45 @@
-//! The three sheets that are measured: a settled unit, a mixed list, and a
-//! reversion that waits.
+//! The three lists that are measured, as sheets and event by event: a settled
+//! unit, a mixed list, and a reversion that waits.
 
 use model::{sheet_of, Event, SAMPLE_LIMIT, SOAK_TICKS};
 use shared::random::Random;
 
-/// How many events each of the sheets has.
+/// How many events each of the lists has.
 pub const EVENTS: usize = 8_000;
 
-pub const SHEETS: [(&str, fn() -> Vec<u8>); 3] =
+pub const LISTS: [(&str, fn() -> List); 3] =
     [("settled", settled), ("mixed", mixed), ("waiting", waiting)];
+
+pub struct List {
+    settings: Vec<(u8, u8)>,
+    events: Vec<Event>,
+}
+
+/// The kind, a, b and word of an event.
+pub type Fields = (u8, u8, u8, i32);
+
+impl List {
+    pub fn sheet(&self) -> Vec<u8> {
+        sheet_of(&self.settings, &self.events)
+    }
+
+    /// What a host sends: the settings as writes, then the events.
+    pub fn fields(&self) -> Vec<Fields> {
+        let write = |&(address, value): &_| Event::Write { address, value };
+        let writes = self.settings.iter().map(write);
+        let events = writes.chain(self.events.iter().copied());
+        events.map(|event| event.to_fields()).collect()
+    }
+}
 
 /// Automatic control, all inputs measured well; from then on every event is an
 /// accepted tick with lock, all clocks clean, input 1 soon Locked.
-fn settled() -> Vec<u8> {
+fn settled() -> List {
     let measured = (1..=8).map(|input| Event::Measurement { input, offset: 0 });
-    let events: Vec<_> = measured.chain(clean_ticks()).take(EVENTS).collect();
-    sheet_of(&[(0x40, 1)], &events)
+    List {
+        settings: vec![(0x40, 1)],
+        events: measured.chain(clean_ticks()).take(EVENTS).collect(),
+    }
 }
 
 /// Ticks with lock, all clocks clean.
@@ -29,10 +53,12 @@ fn clean_ticks() -> impl Iterator<Item = Event> {
 
 /// Ticks with changing irregular masks and lock flags, measurements, writes
 /// and Hits; some of them are refused.
-fn mixed() -> Vec<u8> {
+fn mixed() -> List {
     let mut random = Random::new(1);
-    let events: Vec<_> = (0..EVENTS).map(|_| any_event(&mut random)).collect();
-    sheet_of(&[(0x40, 1), (0x1c, 0x08), (0x1d, 0x09)], &events)
+    List {
+        settings: vec![(0x40, 1), (0x1c, 0x08), (0x1d, 0x09)],
+        events: (0..EVENTS).map(|_| any_event(&mut random)).collect(),
+    }
 }
 
 fn any_event(random: &mut Random) -> Event {
@@ -72,12 +98,12 @@ fn any_event(random: &mut Random) -> Event {
 /// As settled, but with inputs 1 and 2 alone. Input 2 is selected while 1 is
 /// masked; after a soak 1 stands better, and 2, revertive, stays for the longest
 /// delay: from then on every event is an accepted tick of the wait. In the other
-/// two sheets the delay is 0, and no wait is left running.
-fn waiting() -> Vec<u8> {
+/// two lists the delay is 0, and no wait is left running.
+fn waiting() -> List {
     let measured = (1..=2).map(|input| Event::Measurement { input, offset: 0 });
     let mut events: Vec<_> = measured.chain(clean_ticks()).take(EVENTS).collect();
     let (address, value) = (0x42, 0xff);
     events[2 + usize::from(SOAK_TICKS)] = Event::Write { address, value };
-    let settings = [(0x40, 1), (0x42, 0xfe), (0x1d, 0x08), (0x43, 255)];
-    sheet_of(&settings, &events)
+    let settings = vec![(0x40, 1), (0x42, 0xfe), (0x1d, 0x08), (0x43, 255)];
+    List { settings, events }
 }

@@ -1,6 +1,7 @@
-//! The program: measures whole sheets, run and printed by the real controller
-//! and by the Rust models: the times in turn, in one process, and the
-//! instructions, with valgrind. It is no part of the tests.
+//! The program: measures the real controller beside the Rust models, with whole
+//! sheets, run and printed, and as a host has them, event by event: the times in
+//! turn, in one process, and the instructions, with valgrind. It is no part of
+//! the tests.
 
 #![forbid(unsafe_code)]
 
@@ -8,8 +9,8 @@ mod count;
 mod lists;
 mod runners;
 
-use lists::{EVENTS, SHEETS};
-use runners::{Outputs, Task, RUNNERS};
+use lists::{List, EVENTS, LISTS};
+use runners::{Outputs, Runner, Task, RUNNERS};
 use shared::options::{at_fault, unknown, Options};
 use std::ffi::OsString;
 use std::fs::File;
@@ -58,42 +59,43 @@ fn choices(mut options: Options<impl Iterator<Item = OsString>>) -> Result<Choic
     Ok(choices)
 }
 
-/// What the counted process does: a runner, a task and a sheet, by their names,
+/// What the counted process does: a runner, a task and a list, by their names,
 /// so often.
 fn repeat(arguments: impl Iterator<Item = OsString>) -> Result<(), String> {
     let words: Vec<_> = arguments
         .filter_map(|word| word.into_string().ok())
         .collect();
-    let (runner, task, sheet, repeats) = match &words[..] {
-        [runner, task, sheet, repeats] => (runner, task, sheet, repeats.parse()),
-        _ => return Err("--count takes a runner, a task, a sheet and a number".to_string()),
+    let (runner, task, list, repeats) = match &words[..] {
+        [runner, task, list, repeats] => (runner, task, list, repeats.parse()),
+        _ => return Err("--count takes a runner, a task, a list and a number".to_string()),
     };
     let runner = RUNNERS.iter().find(|other| other.name == runner);
     let task = Task::ALL.into_iter().find(|other| other.name() == task);
-    let sheet = SHEETS.iter().find(|(name, _)| name == sheet);
-    match (runner, task, sheet, repeats) {
-        (Some(runner), Some(task), Some((_, sheet)), Ok(repeats)) => {
-            count::repeat(runner, task, &sheet(), repeats)
+    let list = LISTS.iter().find(|(name, _)| name == list);
+    match (runner, task, list, repeats) {
+        (Some(runner), Some(task), Some((_, list)), Ok(repeats)) => {
+            count::repeat(runner, task, &list(), repeats)
         }
-        _ => return Err("--count names no runner, no task, no sheet or no number".to_string()),
+        _ => return Err("--count names no runner, no task, no list or no number".to_string()),
     }
     Ok(())
 }
 
 fn measure(choices: &Choices) {
     println!(
-        "bench: sheets of {} events, the best of {} runs each",
+        "bench: lists of {} events, the best of {} runs each",
         EVENTS, choices.runs
     );
     let counting = count::possible();
     if !counting {
         println!("valgrind is not there: no instructions are counted");
     }
-    for (name, sheet) in SHEETS {
-        let sheet = sheet();
+    for (name, list) in LISTS {
+        let list = list();
+        let sheet = list.sheet();
         describe(name, &sheet);
         for task in Task::ALL {
-            let times = times(task, &sheet, choices.runs);
+            let times = times(task, &list, choices.runs);
             let counts = RUNNERS
                 .iter()
                 .map(|runner| count::instructions(runner, task, name));
@@ -105,7 +107,7 @@ fn measure(choices: &Choices) {
     }
 }
 
-/// What the sheet holds, so that the numbers can be judged.
+/// What the list holds, so that the numbers can be judged.
 fn describe(name: &str, sheet: &[u8]) {
     let records = model::records(sheet).expect("a sheet that runs");
     let share = |holds: fn(&[u8; 4]) -> bool| {
@@ -122,45 +124,49 @@ fn describe(name: &str, sheet: &[u8]) {
     );
 }
 
-/// All runners in turn, the best time of each, in nanoseconds an event.
-fn times(task: Task, sheet: &[u8], runs: u32) -> Vec<f64> {
+/// All runners in turn, the best time of each, in nanoseconds a part of the task.
+fn times(task: Task, list: &List, runs: u32) -> Vec<f64> {
     let (mut expected, mut outputs) = (Outputs::empty(), Outputs::empty());
-    RUNNERS[0].work(task, sheet, &mut expected);
-    let mut best = vec![Duration::MAX; RUNNERS.len()];
+    let work = |runner: &Runner| (runner.name, runner.work(task, list), Duration::MAX);
+    let mut works: Vec<_> = RUNNERS.iter().map(work).collect();
+    (works[0].1)(&mut expected);
     for _ in 0..runs {
-        for (runner, best) in RUNNERS.iter().zip(&mut best) {
+        for (name, work, best) in &mut works {
             outputs.clear();
             let start = Instant::now();
-            runner.work(task, sheet, &mut outputs);
+            work(&mut outputs);
             *best = start.elapsed().min(*best);
-            assert!(outputs == expected, "{} writes other bytes", runner.name);
+            assert!(outputs == expected, "{} writes other bytes", name);
         }
     }
-    let per_event = |best: Duration| best.as_nanos() as f64 / EVENTS as f64;
-    best.into_iter().map(per_event).collect()
+    let (parts, _) = task.parts();
+    let each = |best: Duration| best.as_nanos() as f64 / parts as f64;
+    works.into_iter().map(|(_, _, best)| each(best)).collect()
 }
 
 /// A line for each runner: time and instructions, and the ratios to the models.
 fn print_table(task: Task, times: &[f64], counts: Option<Vec<f64>>) {
+    let (_, part) = task.parts();
     print!(
-        "{:<18}{:>12}{:>10}{:>10}",
+        "{:<18}{:>16}{:>10}{:>10}",
         task.name(),
-        "ns an event",
+        format!("ns {}", part),
         "to plain",
         "to tuned"
     );
     if counts.is_some() {
-        print!("{:>23}{:>10}", "instructions an event", "to tuned");
+        let heading = format!("instructions {}", part);
+        print!("{:>28}{:>10}", heading, "to tuned");
     }
     println!();
     for (i, runner) in RUNNERS.iter().enumerate() {
         let (plain, tuned) = (times[i] / times[0], times[i] / times[1]);
         print!(
-            "  {:<16}{:>12.1}{:>10.2}{:>10.2}",
+            "  {:<16}{:>16.1}{:>10.2}{:>10.2}",
             runner.name, times[i], plain, tuned
         );
         if let Some(counts) = &counts {
-            print!("{:>23.1}{:>10.2}", counts[i], counts[i] / counts[1]);
+            print!("{:>28.1}{:>10.2}", counts[i], counts[i] / counts[1]);
         }
         println!();
     }
