@@ -7,6 +7,7 @@ use crate::refusal::Refusal;
 
 impl Unit {
     /// As the plain model's.
+    #[inline]
     pub fn read(&self, address: u8) -> (u8, u8) {
         let settings = &self.settings;
         let byte = match address {
