@@ -1,9 +1,10 @@
--- The calls of a host, one by one and as whole histories.
-pub mod ByValue
-pub mod Calls
-pub mod Params
-pub mod Row
-pub mod Service
-pub mod Stored
+-- A unit that is lent: as it lies (Lent), its arrays lent on to a call (Lending), a function that is lent one (Exported, Thin), and the walks of the four forms
+-- that the exported functions have.
+pub mod Exported
+pub mod Lending
+pub mod Lent
+pub mod Looks
+pub mod Makes
+pub mod Passes
+pub mod Stores
 pub mod Thin
-pub mod Walk

@@ -31,6 +31,11 @@ inputsOf m = eight (inputAt m)
 
 -- ---- some of the rows replaced
 
+-- other levels, decay counts and activity alarms
+abbrev pub withActivity : Monitors → List ℕ → List ℕ → List ℕ → Monitors
+withActivity m level decay activity =
+    record { level = level; decay = decay; activity = activity; frequency = m .frequency; remainder = m .remainder; soak = m .soak }
+
 -- other frequency alarms, remainders and soaks
 abbrev pub withAlarms : Monitors → List ℕ → List ℕ → List ℕ → Monitors
 withAlarms m frequency remainder soak =

@@ -13,7 +13,7 @@ ghost use Rattle.rules.specs.Inputs.{input, altered};
 ghost use Rattle.rules.specs.Buckets.{putAtSize};
 ghost use Rattle.buckets.specs.Bridge.{eight};
 ghost use Rattle.rules.specs.Reading.{qualifiedMask};
-ghost use Rattle.inputs.specs.Bridge.{isSet, inputsOf, withFrequency, withLockAlarms, withSoak};
+ghost use Rattle.inputs.specs.Bridge.{isSet, inputsOf, withActivity, withFrequency, withLockAlarms, withSoak};
 ghost use Rattle.inputs.specs.declared.Monitors as stored;
 use arith::either;
 use arith::mask_of;
@@ -157,27 +157,19 @@ fn replaced(concerned: Row, v: u16, row: Row) -> Row
     ]
 }
 
-// The rule `putAtSize`.
-pub fn put_at_size(m: Monitors, concerned: Row, size: u16) -> Monitors
-    ensures { λ r. ⌜ inputsOf r ≡ putAtSize (λ i. isSet (ListN.getD concerned (i - 1) 0)) size (inputsOf m) ⌝ }
+// The rule `putAtSize`, where the rows lie: of the concerned inputs the level is the size, the decay count 0, and the activity alarm set.
+pub fn put_at_size(level: &mut Row, decay: &mut Row, activity: &mut Row, concerned: Row, size: u16)
+    ensures { λ _. ⌜ ((m : stored.Monitors) → inputsOf (withActivity m (now (level .exit)) (now (decay .exit)) (now (activity .exit))) ≡ putAtSize (λ i. isSet (ListN.getD concerned (i - 1) 0)) size (inputsOf (withActivity m (now (level .entry)) (now (decay .entry)) (now (activity .entry))))) ⌝ }
 {
-    let l = m.level;
-    let d = m.decay;
-    let a = m.activity;
-    let level = replaced(concerned, size, l);
-    let decay = replaced(concerned, 0, d);
-    let activity = replaced(concerned, 1, a);
-    let frequency = m.frequency;
-    let remainder = m.remainder;
-    let soak = m.soak;
-    Monitors {
-        level: level,
-        decay: decay,
-        activity: activity,
-        frequency: frequency,
-        remainder: remainder,
-        soak: soak,
-    }
+    let l = *level;
+    let d = *decay;
+    let a = *activity;
+    let levels = replaced(concerned, size, l);
+    let decays = replaced(concerned, 0, d);
+    let alarms = replaced(concerned, 1, a);
+    *level = levels;
+    *decay = decays;
+    *activity = alarms;
 }
 
 // ---- qualified

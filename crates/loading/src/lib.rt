@@ -7,15 +7,19 @@ ghost use Rattle.rules.specs.Words.{if_then_else_, every};
 ghost use Rattle.rules.specs.Registers.{mapSize, registers, reads, stored, settingsFrom};
 ghost use Rattle.rules.specs.Loading as rules;
 ghost use Rattle.rules.specs.Loading.{fits, loadRefusal, loading};
+ghost use Rattle.state.specs.Lent.{wholly};
 ghost use Rattle.unit.specs.Given.{Leads};
+use buckets::Row;
+use history::Sums;
 use registers::COMMAND_SLOT;
 use registers::QUALIFICATION_SLOT;
 use registers::REGISTERS;
 use registers::REJECT_SLOT;
 use registers::Registers;
 use registers::SLOTS;
-use state::Unit;
-use unit::Outcome;
+use state::Core;
+use unit::Stepped;
+use week::Windows;
 
 // ---- the check
 
@@ -84,21 +88,52 @@ fn registers_from(table: &[u8]) -> Registers
     regs
 }
 
-// The rule `loading`: a unit made anew of a table that loads, or number 15 and the same unit.
-pub fn load(u: Unit, table: &[u8]) -> Outcome
-    ensures { λ r. ⌜ Leads u (loading (now (table .entry))) (r .refusal) (r .unit) ⌝ }
+// The rule `loading`, on a unit whose arrays are lent: it is made anew of a table that loads, or number 15 and the same unit.
+pub fn load(
+    k: Core,
+    level: &mut Row,
+    decay: &mut Row,
+    activity: &mut Row,
+    frequency: &mut Row,
+    remainder: &mut Row,
+    soak: &mut Row,
+    sets: &mut [u32; 4],
+    assigned: &mut Row,
+    sums: &mut Sums,
+    building: &mut Sums,
+    backup: &mut Sums,
+    windows: &mut Windows,
+    regs: &mut Registers,
+    table: &[u8],
+) -> Stepped
+    ensures { λ r. ⌜ wholly level decay activity frequency remainder soak sets assigned sums building backup windows regs (λ before after. Leads (before k) (loading (now (table .entry))) (r .refusal) (after (r .core))) ⌝ }
 {
     let number = load_refusal(table);
     if number == 0 {
-        let regs = registers_from(table);
-        let made = state::fresh_with(regs);
-        return Outcome {
+        let values = registers_from(table);
+        let made = state::make_with(
+            level,
+            decay,
+            activity,
+            frequency,
+            remainder,
+            soak,
+            sets,
+            assigned,
+            sums,
+            building,
+            backup,
+            windows,
+            regs,
+            &values,
+        );
+        return Stepped {
             refusal: 0,
-            unit: made,
+            core: made,
         };
     }
-    Outcome {
+    Stepped {
         refusal: number,
-        unit: u,
+        core: k,
     }
 }

@@ -1,2 +1,2 @@
 -- What the contracts of a read cite.
-pub mod Bridge
+pub mod Shows

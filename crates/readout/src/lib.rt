@@ -1,16 +1,22 @@
 // What a read of a register shows (document 01, "Registers"): hours, state and status, the value, masks and counts, and the settings.
 // Each contract is an equation with a rule of crates/rules/specs/Reading.antt; the rule is named above the function.
 ghost use mathlib.Core.Path.{_≡_};
-ghost use Prim.Native.Nat.{min};
-ghost use Rattle.rules.specs.Words.{if_then_else_};
-ghost use Rattle.rules.specs.History.{ready, value};
+ghost use mathlib.Core.List.{List};
+ghost use Prim.Native.Nat.{_≤_, min};
+ghost use lib.IntN.{ℤ};
 ghost use Rattle.rules.specs.Reading as reading;
 ghost use Rattle.pll.specs.Bridge.{modeOf};
-ghost use Rattle.state.specs.Stored.{meaning};
-ghost use Rattle.readout.specs.Bridge.{answerOf};
+ghost use Rattle.history.specs.Bridge.{historyOf};
+ghost use Rattle.state.specs.Stored.{Stored, meaning};
+ghost use Rattle.readout.specs.Shows.{byteAt, seen, Shows};
 use arith::one_of;
 use arith::weigh;
-use state::Unit;
+use arith::wide16;
+use buckets::Row;
+use history::Sums;
+use history::Tally;
+use registers::Registers;
+use state::Core;
 
 // The lesser of a number and 255.
 fn byte_of(n: u32) -> u8
@@ -50,35 +56,31 @@ pub fn status_byte(mode: u32, ready: bool, held: bool) -> u8
     weigh(one_of(holdover, free), 1) + weigh(!locked, 2) + weigh(ready, 4) + weigh(held, 8)
 }
 
-// 0x4a to 0x4d together: the value's 32 bits; 0 unless Ready.
-fn value_bits(u: Unit) -> u32
-    ensures { λ r. ⌜ r ≡ (if ready (meaning u .history) then reading.twos (value (meaning u .history)) else 0) ⌝ }
+// 0x4a to 0x4d, the rule `valueByte`: the byte of the value's 32 bits at a unit 1, 256, 65,536 or 16,777,216; 0 unless Ready. The sums are read once.
+fn value_byte(t: Tally, sums: &Sums, unit: u32) -> u8
+    requires { ⌜ 1 ≤ unit ⌝ }
+    ensures { λ r. ⌜ ((building backup : List ℤ) → r ≡ byteAt unit (historyOf t (now (sums .entry)) building backup)) ⌝ }
 {
-    let t = u.core.tally;
-    let sums = u.history.sums;
     let ready = history::is_ready(t);
     if ready {
-        return value::twos(value::value(t, sums));
+        let bits = value::twos(value::value(t, sums));
+        return (bits / unit % 256) as u8;
     }
     0
 }
 
 // A register that is read only: the rule `shown`.
-fn shown(u: Unit, a: u8) -> u8
-    ensures { λ r. ⌜ r ≡ reading.shown (meaning u) a ⌝ }
+fn shown(k: Core, soak: &Row, sums: &Sums, regs: &Registers, a: u8) -> u8
+    ensures { λ r. ⌜ ((s : Stored) → r ≡ reading.shown (meaning (seen k soak sums regs s)) a) ⌝ }
 {
-    let m = u.monitors;
-    let soak = m.soak;
-    let regs = u.regs;
-    let k = u.core;
     if a == 0x27 {
         return hours(k.pll.mode, k.holding);
     }
     if a == 0x46 {
-        return inputs::qualified_mask(&soak);
+        return inputs::qualified_mask(soak);
     }
     if a == 0x47 {
-        return candidates::available_mask(&soak, &regs);
+        return candidates::available_mask(soak, regs);
     }
     if a == 0x48 {
         return state_byte(k.pll.mode, k.choice.selected);
@@ -91,56 +93,41 @@ fn shown(u: Unit, a: u8) -> u8
         );
     }
     if a == 0x4a {
-        return (value_bits(u) % 256) as u8;
+        return value_byte(k.tally, sums, 1);
     }
     if a == 0x4b {
-        return (value_bits(u) / 256 % 256) as u8;
+        return value_byte(k.tally, sums, 256);
     }
     if a == 0x4c {
-        return (value_bits(u) / 65_536 % 256) as u8;
+        return value_byte(k.tally, sums, 65_536);
     }
     if a == 0x4d {
-        return (value_bits(u) / 16_777_216 % 256) as u8;
+        return value_byte(k.tally, sums, 16_777_216);
     }
-    candidates::available_count(&soak, &regs)
+    candidates::available_count(soak, regs)
 }
 
 // A register of the map: the rule `content`.
-fn content(u: Unit, a: u8) -> u8
-    ensures { λ r. ⌜ r ≡ reading.content (meaning u) a ⌝ }
+fn content(k: Core, soak: &Row, sums: &Sums, regs: &Registers, a: u8) -> u8
+    ensures { λ r. ⌜ ((s : Stored) → r ≡ reading.content (meaning (seen k soak sums regs s)) a) ⌝ }
 {
-    let regs = u.regs;
     let row = registers::register_at(a);
     if row.readonly {
-        return shown(u, a);
+        return shown(k, soak, sums, regs, a);
     }
     if a == 0x26 {
-        return u.core.tally.command;
+        return k.tally.command;
     }
-    registers::setting(&regs, a)
+    registers::setting(regs, a)
 }
 
-// What a read gives: the number, and the byte.
-#[repr(C)]
-pub struct Answer {
-    pub refusal: u8,
-    pub byte: u8,
-}
-
-// The rule `read`, at every address.
-pub fn read(u: Unit, a: u8) -> Answer
-    ensures { λ r. ⌜ answerOf r ≡ reading.read (meaning u) a ⌝ }
+// The rule `read`, at every address, of a unit whose core and arrays are these: 256 times the refusal, plus the byte.
+pub fn read(k: Core, soak: &Row, sums: &Sums, regs: &Registers, a: u8) -> u16
+    ensures { λ r. ⌜ ((s : Stored) → Shows (seen k soak sums regs s) a r) ⌝ }
 {
     let known = registers::in_map(a);
     if known {
-        let byte = content(u, a);
-        return Answer {
-            refusal: 0,
-            byte: byte,
-        };
+        return wide16(content(k, soak, sums, regs, a));
     }
-    Answer {
-        refusal: 1,
-        byte: 0,
-    }
+    256
 }

@@ -1,10 +1,11 @@
 -- THE STORED STATE, named once: the rules' state that it is, and what it is with another part. A contract speaks of one stored state, and replaces in it what
 -- its function is lent.
+use mathlib.Core.Path.{_≡_}
 use mathlib.Core.List.{List}
 use Prim.Native.Nat.{ℕ}
 use lib.IntN.{ℤ}
 use Rattle.rules.specs.State.{State}
-use Rattle.rules.specs.Registers.{settingsFrom}
+use Rattle.rules.specs.Registers.{settingsFrom, fresh}
 use Rattle.buckets.specs.Bridge.{bucketsOf}
 use Rattle.buckets.specs.declared.Buckets.{Buckets}
 use Rattle.inputs.specs.Bridge as rows
@@ -36,6 +37,10 @@ meaning s =
       holding = s .core .holding;
       week = weekOf (s .core .place) (s .windows);
     }
+
+-- what is said of a unit that is made as the standard fresh one
+abbrev pub Made : Stored → Type 0
+Made u = meaning u ≡ fresh
 
 -- ---- with another part
 

@@ -1,21 +1,15 @@
 -- What a tick is lent of a unit, as it lies when the call begins, and when it returns; and what it is handed beside that. The core goes by value.
 use Prim.Native.Nat.{ℕ}
 use mathlib.Core.Path.{_≡_}
-use mathlib.Core.List.{List}
-use lib.IntN.{ℤ}
-use denote.Ref.{RefT, now}
-use denote.Triple.Both.{Both}
+use denote.Ref.{now}
 use Rattle.rules.specs.Registers.{settingsFrom}
 use Rattle.buckets.specs.Bridge.{numbers, numbersOf}
 use Rattle.inputs.specs.Bridge as rows
 use Rattle.inputs.specs.Bridge.{Row}
 use Rattle.selection.specs.Bridge.{Follows}
+use Rattle.state.specs.Lent.{Sums}
 use Rattle.state.specs.Stored.{Stored, withCore, withRows, withRegisters, withWindows, withSums, withBuilding}
 use Rattle.state.specs.declared.Core.{Core}
-
--- an array of sums that is lent
-abbrev pub Sums : Type 0
-Sums = Both (RefT (List ℤ)) (RefT (List ℤ))
 
 -- a unit with what is lent, as the call begins, and with core k
 abbrev pub entering : Row → Row → Row → Row → Row → Row → Row → Row → Sums → Sums → Core → Stored → Stored

@@ -1,8 +1,8 @@
 -- What a write is lent of a unit, as it lies when the call begins, and when it returns: the registers, and three arrays of sums.
 use denote.Ref.{now}
 use Rattle.inputs.specs.Bridge.{Row}
+use Rattle.state.specs.Lent.{Sums}
 use Rattle.state.specs.Stored.{Stored, withRegisters, withSums, withBuilding, withBackup}
-use Rattle.tick.specs.Lent.{Sums}
 
 abbrev pub entering : Row → Sums → Sums → Sums → Stored → Stored
 entering regs sums building backup s =

@@ -13,6 +13,7 @@ ghost use Rattle.rules.specs.Events as events;
 ghost use Rattle.rules.specs.Events.{halfPpm, sampleLimit};
 ghost use Rattle.rules.specs.Run.{afterWrite};
 ghost use Rattle.selection.specs.Bridge.{Follows};
+ghost use Rattle.state.specs.Lent.{wholly};
 ghost use Rattle.state.specs.Stored.{Stored, meaning, withCore, withTally, withFrequency, withSoak, withRegisters, withBackup};
 ghost use Rattle.tick.specs.Lent.{across, Handed};
 ghost use Rattle.unit.specs.Events.{eventOf};
@@ -22,15 +23,13 @@ use arith::is_input;
 use arith::is_tracked;
 use arith::wide16;
 use arith::wide32;
+use buckets::Buckets;
 use buckets::Row;
 use candidates::Keys;
-use history::History;
 use history::Sums;
 use history::Tally;
-use inputs::Monitors;
 use registers::Registers;
 use state::Core;
-use state::Unit;
 use waits::UNREAD;
 use week::Windows;
 
@@ -311,81 +310,93 @@ pub fn step(
     }
 }
 
-// ---- the unit
+// ---- a unit whose arrays are lent
 
-// What an event gives: its refusal number, 0 if it is accepted, and the unit.
-#[repr(C)]
-pub struct Outcome {
-    pub refusal: u8,
-    pub unit: Unit,
-}
-
-// The rule `outcome`: an event's number, and the unit that it leaves. What an event may change is copied; the windows are lent where they lie.
-pub fn handle(e: Event, u: Unit) -> Outcome
-    ensures { λ r. ⌜ Gives u (eventOf e) (r .refusal) (r .unit) ⌝ }
+// The rule `outcome`: an event's number, and the core that it leaves. What a tick is handed is made here: the numbers of each input's set, the keys, and no
+// delay. No other event needs it.
+pub fn handle(
+    e: Event,
+    k: Core,
+    level: &mut Row,
+    decay: &mut Row,
+    activity: &mut Row,
+    frequency: &mut Row,
+    remainder: &mut Row,
+    soak: &mut Row,
+    sets: &[u32; 4],
+    assigned: &Row,
+    sums: &mut Sums,
+    building: &mut Sums,
+    backup: &mut Sums,
+    windows: &Windows,
+    regs: &mut Registers,
+) -> Stepped
+    ensures { λ r. ⌜ wholly level decay activity frequency remainder soak sets assigned sums building backup windows regs (λ before after. Gives (before k) (eventOf e) (r .refusal) (after (r .core))) ⌝ }
 {
-    let m = u.monitors;
-    let mut level = m.level;
-    let mut decay = m.decay;
-    let mut activity = m.activity;
-    let mut frequency = m.frequency;
-    let mut remainder = m.remainder;
-    let mut soak = m.soak;
-    let b = u.buckets;
-    let numbers = buckets::numbers_of(b);
-    let sizes = numbers.sizes;
-    let highs = numbers.highs;
-    let lows = numbers.lows;
-    let lasts = numbers.lasts;
-    let mut regs = u.regs;
-    let mut sums = u.history.sums;
-    let mut building = u.history.building;
-    let mut backup = u.history.backup;
-    let mut keys = candidates::keys_of(&regs);
-    let mut handed = UNREAD;
-    let k = u.core;
-    let s = step(
-        e,
-        k,
-        &mut level,
-        &mut decay,
-        &mut activity,
-        &mut frequency,
-        &mut remainder,
-        &mut soak,
-        &sizes,
-        &highs,
-        &lows,
-        &lasts,
-        &mut regs,
-        &mut keys,
-        &mut handed,
-        &u.windows,
-        &mut sums,
-        &mut building,
-        &mut backup,
-    );
-    let after = s.core;
-    let rows = Monitors {
-        level: level,
-        decay: decay,
-        activity: activity,
-        frequency: frequency,
-        remainder: remainder,
-        soak: soak,
-    };
-    let blocks = History {
-        sums: sums,
-        building: building,
-        backup: backup,
-    };
-    let mut next = u;
-    next.core = after;
-    next.monitors = rows;
-    next.history = blocks;
-    next.regs = regs;
-    Outcome {
-        refusal: s.refusal,
-        unit: next,
+    match e {
+        Event::Tick(mask, lock, x) => {
+            let words = *sets;
+            let set_of = *assigned;
+            let numbers = buckets::numbers_of(Buckets {
+                sets: words,
+                assigned: set_of,
+            });
+            let sizes = numbers.sizes;
+            let highs = numbers.highs;
+            let lows = numbers.lows;
+            let lasts = numbers.lasts;
+            let keys = candidates::keys_of(regs);
+            on_tick(
+                mask,
+                lock,
+                x,
+                k,
+                level,
+                decay,
+                activity,
+                frequency,
+                remainder,
+                soak,
+                &sizes,
+                &highs,
+                &lows,
+                &lasts,
+                regs,
+                &keys,
+                UNREAD,
+                windows,
+                sums,
+                building,
+            )
+        }
+        Event::Measurement(i, offset) => {
+            let refused = on_measurement(i, offset, frequency, regs);
+            Stepped {
+                refusal: refused,
+                core: k,
+            }
+        }
+        Event::Hit => on_hit(k, soak),
+        Event::Write(a, v) => {
+            let mut keys = [0u16; 9];
+            let mut handed = UNREAD;
+            let copy = k;
+            let s = write(
+                a,
+                v,
+                copy,
+                regs,
+                &mut keys,
+                &mut handed,
+                sums,
+                building,
+                backup,
+            );
+            let next = s.core;
+            Stepped {
+                refusal: s.refusal,
+                core: next,
+            }
+        }
     }
 }

@@ -83,8 +83,8 @@ pub fn twos(z: i64) -> u32
 // ---- the value
 
 // `sumOf` the block sums in use.
-pub fn total(sums: Sums, count: u16) -> i64
-    ensures { λ r. ⌜ r ≡ sumOf (keptOf sums count) ⌝ }
+fn total(sums: &Sums, count: u16) -> i64
+    ensures { λ r. ⌜ r ≡ sumOf (keptOf (now (sums .entry)) count) ⌝ }
 {
     let n = least(count, 64) as usize;
     let mut s: i64 = 0;
@@ -97,8 +97,8 @@ pub fn total(sums: Sums, count: u16) -> i64
 }
 
 // `value`: the greatest whole number not above the mean of the kept samples; 0 where no block is kept.
-pub fn value(t: Tally, sums: Sums) -> i64
-    ensures { λ r. ⌜ ((building backup : List ℤ) → r ≡ value (historyOf t sums building backup)) ⌝ }
+pub fn value(t: Tally, sums: &Sums) -> i64
+    ensures { λ r. ⌜ ((building backup : List ℤ) → r ≡ value (historyOf t (now (sums .entry)) building backup)) ⌝ }
 {
     let count = wide16(t.count);
     let n = least(count, 64) as u64;

@@ -19,9 +19,10 @@ registers-from-requires c κs = whole-loaded (c .before .before .before .args .t
 returns : tie.Need-returns
 unfolding loading freshFrom
 returns c =
-    let tested = c .before .before in
+    let read = c .before .before .before .before .before .before .before .before .before .before .before .before .before .before .before in
+    let tested = read .before in
     let table = tested .before .before .before .args .table .now in
-    let made = c .fresh-with .ensures ∙ (λ i. freshWith (c .before .registers-from .ensures i)) in
+    let made = c .make-with .ensures ∙ (λ i. freshWith (read .registers-from .ensures i)) in
     let number : 0 ≡ loadRefusal table = sym (tested .if1 .taken) ∙ tested .before .load-refusal .ensures in
     record { rules = rw (ok tested) (λ i. record { refusal = number i; state = made i }); left = λ some. absurd (some refl) }
 

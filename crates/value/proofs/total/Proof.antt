@@ -18,10 +18,10 @@ use Rattle.value.proofs.total.Statement.{statement}
 use Rattle.value.proofs.total.Tie as tie
 
 abbrev Inv-loop : tie.InvT-loop
-Inv-loop count sums n s₀ i₀ s i = (i ≤ n) × (toZ w64 s ≡ sumOf (firstSums i sums))
+Inv-loop sums count n s₀ i₀ s i = (i ≤ n) × (toZ w64 s ≡ sumOf (firstSums i sums))
 
 abbrev μ-loop : tie.MeasureT-loop
-μ-loop count sums n s₀ i₀ s i = n - i
+μ-loop sums count n s₀ i₀ s i = n - i
 
 least-requires : tie.Need-least-requires Inv-loop μ-loop
 least-requires c κs = search needs
@@ -36,8 +36,8 @@ loop-holds c = (omega arith, refl)
 mul-within : tie.Need-mul-within Inv-loop μ-loop
 mul-within c = search needs
 
-array-copy-out-within : tie.Need-array-copy-out-within Inv-loop μ-loop
-array-copy-out-within c = search needs
+element-copy-out-within : tie.Need-element-copy-out-within Inv-loop μ-loop
+element-copy-out-within c = search needs
 
 within-requires : tie.Need-within-requires Inv-loop μ-loop
 within-requires c κs = search needs
@@ -45,7 +45,7 @@ within-requires c κs = search needs
 -- what the machine adds, and that it fits
 module _ (c : tie.After-within Inv-loop μ-loop) where
   abbrev sums : List ℤ
-  sums = c .before .before .before .before .before .args .t1
+  sums = c .before .before .before .before .before .args .sums .now
 
   abbrev i : ℕ
   i = c .before .before .before .loop .i
@@ -75,9 +75,9 @@ returns : tie.Need-returns Inv-loop μ-loop
 returns c =
     let s = c .before .before .before in
     let e : c .before .loop .i ≡ min (s .args .count) 64 = omega arith in
-    c .before .loop .inv .1 ∙ ap (λ (n : ℕ). sumOf (firstSums n (s .args .t1))) e
+    c .before .loop .inv .1 ∙ ap (λ (n : ℕ). sumOf (firstSums n (s .args .sums .now))) e
 
 pub total-spec : {M : Type 1} → statement M
 total-spec =
     tie.close
-    (tie.spec Inv-loop μ-loop least-requires cast-n loop-holds mul-within array-copy-out-within within-requires add-s add-i loop-less loop-again returns)
+    (tie.spec Inv-loop μ-loop least-requires cast-n loop-holds mul-within element-copy-out-within within-requires add-s add-i loop-less loop-again returns)

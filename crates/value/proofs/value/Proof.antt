@@ -17,8 +17,8 @@ returns c building backup =
     let a = w .before .args in
     let count = w .wide16 .ensures .0 in
     stored (c .floor-div .result) (c .floor-div .ok) ∙ c .floor-div .ensures
-    ∙ (λ i. shrZ ((stored (c .before .total .result) (c .before .total .ok) ∙ c .before .total .ensures ∙ ap (λ (n : ℕ). sumOf (keptOf (a .sums) n)) count) i)
-    (128 * (c .before .before .least .ensures ∙ ap (λ (n : ℕ). min n 64) count ∙ sym (kept-length (a .sums) (a .t .count))) i))
+    ∙ (λ i. shrZ ((stored (c .before .total .result) (c .before .total .ok) ∙ c .before .total .ensures ∙ ap (λ (n : ℕ). sumOf (keptOf (a .sums .now) n)) count) i)
+    (128 * (c .before .before .least .ensures ∙ ap (λ (n : ℕ). min n 64) count ∙ sym (kept-length (a .sums .now) (a .t .count))) i))
 
 pub value-spec : {M : Type 1} → statement M
 value-spec = tie.close (tie.spec (search needs) (search needs) (search needs) (search needs) (search needs) (search needs) returns)

@@ -1,3 +1,0 @@
--- What the exported functions' contracts say, and demands 2 and 3, #102 and #104 to #107 of the unit itself.
-pub mod Lent
-pub mod Service

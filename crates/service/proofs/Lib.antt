@@ -1,0 +1,2 @@
+-- The unit itself, over whole histories.
+pub mod Service
