@@ -31,7 +31,6 @@ use inputs::Monitors;
 use registers::Registers;
 use state::Core;
 use state::Unit;
-use waits::UNREAD;
 use week::Windows;
 
 // The four events.
@@ -190,7 +189,7 @@ fn write_accepted(
     t
 }
 
-// The delay that is handed on after a write at a: looked up anew if that is 0x43.
+// The floor of the delay that is handed on after a write at a: the delay itself, looked up, if that is 0x43.
 fn delay_after(a: u8, regs: &Registers, handed: u32) -> u32
     ensures { λ r. ⌜ r ≡ (if eqb a 0x43 then delayTicks (delay (settingsFrom (now (regs .entry)))) else handed) ⌝ }
 {
@@ -200,7 +199,7 @@ fn delay_after(a: u8, regs: &Registers, handed: u32) -> u32
     handed
 }
 
-// The rule `outcome` of a write: accepted, or the first of refusals 1, 2, 3, 4 and 8 that fits. The keys are made anew, and by a write of 0x43 the delay.
+// The rule `outcome` of a write: accepted, or the first of refusals 1, 2, 3, 4 and 8 that fits. The keys are made anew, and by a write of 0x43 the floor.
 pub fn write(
     a: u8,
     v: u8,
@@ -242,8 +241,8 @@ pub fn write(
 
 // ---- an event
 
-// The rule `outcome`, with every array of the state lent but those of the sets, and beside them the numbers of each input's set, and the keys and the delay of
-// the registers. A write takes a copy of the core and its answer is copied: lent to that call, the core would lie in memory at each tick.
+// The rule `outcome`, with every array of the state lent but those of the sets, and beside them the numbers of each input's set, the keys of the registers, and
+// a floor of their delay. A write takes a copy of the core and its answer is copied: lent to that call, the core would lie in memory at each tick.
 pub fn step(
     e: Event,
     k: Core,
@@ -342,7 +341,7 @@ pub fn handle(e: Event, u: Unit) -> Outcome
     let mut building = u.history.building;
     let mut backup = u.history.backup;
     let mut keys = candidates::keys_of(&regs);
-    let mut handed = UNREAD;
+    let mut handed = waits::delay_floor(registers::setting(&regs, 0x43));
     let k = u.core;
     let s = step(
         e,
