@@ -112,7 +112,7 @@ assigned-anew b i n input few =
 
 -- ---- the bucket of an input
 
-four-at : {A : Type 0} (f : ℕ → A) (d : A) (n : ℕ) → n < 4 → getD (four f) n d ≡ f n
+pub four-at : {A : Type 0} (f : ℕ → A) (d : A) (n : ℕ) → n < 4 → getD (four f) n d ≡ f n
 four-at f d zero h = refl
 four-at f d (suc zero) h = refl
 four-at f d (suc (suc zero)) h = refl

@@ -2,7 +2,8 @@
 // A set's numbers are its size, the level that sets the activity alarm, the level that clears it, and the last decay count: one less than the ticks of a
 // decay.
 ghost use mathlib.Core.Path.{_≡_};
-ghost use Prim.Native.Nat.{_+_, _-_, _%_, _^_, _≤_, min};
+ghost use mathlib.Core.List.{[], _∷_};
+ghost use Prim.Native.Nat.{_+_, _-_, _/_, _%_, _^_, _≤_, min};
 ghost use lib.Dec.{eqb};
 ghost use lib.ListN.{getD};
 ghost use Rattle.rules.specs.Words.{if_then_else_};
@@ -20,8 +21,8 @@ use arith::wide32;
 pub type Row = [u16; 8];
 
 // The sets, set 0 first, each in one word: from its lowest byte up the size, the set level, the clear level, and the last decay count. And the set of each
-// input, input 1 first: of its number the two lowest bits count. Words of four bytes, since eight of them are fetched at each event of a host and taken apart
-// side by side.
+// input, input 1 first: of its number the two lowest bits count. A word, since at each event of a host two of its halves are chosen for every input, side by
+// side, and then taken apart: two choices in place of four.
 #[repr(C)]
 pub struct Buckets {
     pub sets: [u32; 4],
@@ -40,51 +41,72 @@ pub fn fresh_buckets() -> Buckets
 
 // ---- rows of eight
 
-// The word of set n.
-fn word_at(sets: [u32; 4], n: u16) -> u32
-    ensures { λ r. ⌜ r ≡ getD sets (n % 4) 0 ⌝ }
+// Half of a word: that of the unit 1 or 65,536.
+fn half_of(w: u32, unit: u32) -> u16
+    requires { ⌜ 1 ≤ unit ⌝ }
+    ensures { λ r. ⌜ r ≡ w / unit % 65_536 ⌝ }
 {
-    sets[(n % 4) as usize]
+    (w / unit % 65_536) as u16
 }
 
-// For each input the word of its set.
-fn words(sets: [u32; 4], assigned: Row) -> [u32; 8]
-    ensures { λ r. ⌜ r ≡ eight (wordOf sets assigned) ⌝ }
+// Of four numbers, one for each set, that of set n.
+fn of_set(n: u16, a: u16, b: u16, c: u16, d: u16) -> u16
+    ensures { λ r. ⌜ r ≡ getD (a ∷ b ∷ c ∷ d ∷ []) (n % 4) 0 ⌝ }
+{
+    let set = n % 4;
+    either(set == 1, b, either(set == 2, c, either(set == 3, d, a)))
+}
+
+// For each input that of its set.
+fn of_sets(assigned: Row, a: u16, b: u16, c: u16, d: u16) -> Row
+    ensures { λ r. ⌜ r ≡ eight (wordOf (a ∷ b ∷ c ∷ d ∷ []) assigned) ⌝ }
 {
     [
-        word_at(sets, assigned[0]),
-        word_at(sets, assigned[1]),
-        word_at(sets, assigned[2]),
-        word_at(sets, assigned[3]),
-        word_at(sets, assigned[4]),
-        word_at(sets, assigned[5]),
-        word_at(sets, assigned[6]),
-        word_at(sets, assigned[7]),
+        of_set(assigned[0], a, b, c, d),
+        of_set(assigned[1], a, b, c, d),
+        of_set(assigned[2], a, b, c, d),
+        of_set(assigned[3], a, b, c, d),
+        of_set(assigned[4], a, b, c, d),
+        of_set(assigned[5], a, b, c, d),
+        of_set(assigned[6], a, b, c, d),
+        of_set(assigned[7], a, b, c, d),
     ]
 }
 
-// One byte of a word: that of the unit 1, 256, 65,536 or 16,777,216.
-fn byte_of(w: u32, unit: u32) -> u16
+// For each input half of its set's word.
+fn halves(sets: [u32; 4], assigned: Row, unit: u32) -> Row
     requires { ⌜ 1 ≤ unit ⌝ }
-    ensures { λ r. ⌜ r ≡ byteOf w unit ⌝ }
+    ensures { λ r. ⌜ r ≡ eight (λ k. wordOf sets assigned k / unit % 65_536) ⌝ }
 {
-    (w / unit % 256) as u16
+    let a = half_of(sets[0], unit);
+    let b = half_of(sets[1], unit);
+    let c = half_of(sets[2], unit);
+    let d = half_of(sets[3], unit);
+    of_sets(assigned, a, b, c, d)
 }
 
-// That byte of eight words.
-fn bytes_of(w: [u32; 8], unit: u32) -> Row
+// A byte of half a word: that of the unit 1 or 256.
+fn byte_of(half: u16, unit: u16) -> u16
     requires { ⌜ 1 ≤ unit ⌝ }
-    ensures { λ r. ⌜ r ≡ eight (λ k. byteOf (getD w k 0) unit) ⌝ }
+    ensures { λ r. ⌜ r ≡ byteOf half unit ⌝ }
+{
+    half / unit % 256
+}
+
+// That byte of eight.
+fn bytes_of(row: Row, unit: u16) -> Row
+    requires { ⌜ 1 ≤ unit ⌝ }
+    ensures { λ r. ⌜ r ≡ eight (λ k. byteOf (getD row k 0) unit) ⌝ }
 {
     [
-        byte_of(w[0], unit),
-        byte_of(w[1], unit),
-        byte_of(w[2], unit),
-        byte_of(w[3], unit),
-        byte_of(w[4], unit),
-        byte_of(w[5], unit),
-        byte_of(w[6], unit),
-        byte_of(w[7], unit),
+        byte_of(row[0], unit),
+        byte_of(row[1], unit),
+        byte_of(row[2], unit),
+        byte_of(row[3], unit),
+        byte_of(row[4], unit),
+        byte_of(row[5], unit),
+        byte_of(row[6], unit),
+        byte_of(row[7], unit),
     ]
 }
 
@@ -102,11 +124,12 @@ pub fn numbers_of(b: Buckets) -> Numbers
 {
     let sets = b.sets;
     let assigned = b.assigned;
-    let w = words(sets, assigned);
-    let sizes = bytes_of(w, 1);
-    let highs = bytes_of(w, 256);
-    let lows = bytes_of(w, 65_536);
-    let lasts = bytes_of(w, 16_777_216);
+    let lower = halves(sets, assigned, 1);
+    let upper = halves(sets, assigned, 65_536);
+    let sizes = bytes_of(lower, 1);
+    let highs = bytes_of(lower, 256);
+    let lows = bytes_of(upper, 1);
+    let lasts = bytes_of(upper, 256);
     Numbers {
         sizes: sizes,
         highs: highs,
@@ -120,7 +143,7 @@ pub fn size_of(b: Buckets, n: u8) -> u16
     ensures { λ r. ⌜ r ≡ bucketIn (getD (b .sets) (n % 4) 0) .size ⌝ }
 {
     let sets = b.sets;
-    byte_of(word_at(sets, wide16(n)), 1)
+    (sets[(n % 4) as usize] % 256) as u16
 }
 
 // The inputs that have set n: 1 for each, 0 for the others.

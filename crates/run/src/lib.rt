@@ -17,7 +17,6 @@ use history::Sums;
 use registers::Registers;
 use state::Core;
 use state::Unit;
-use waits::UNREAD;
 
 // ---- the run
 
@@ -170,7 +169,7 @@ pub fn run_into(sheet: &[u8], out: &mut [u8]) -> usize
     let mut building = u.history.building;
     let mut backup = u.history.backup;
     let mut keys = candidates::keys_of(&regs);
-    let mut handed = UNREAD;
+    let mut handed = waits::delay_floor(registers::setting(&regs, 0x43));
     let fresh = u.core;
     let k = run_settings(
         &sheet[2..],

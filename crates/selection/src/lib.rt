@@ -2,17 +2,16 @@
 // candidates' keys and the windows are lent for reading, and the contracts hold whatever else the inputs are. The settings are `settingsFrom` of the
 // registers.
 ghost use mathlib.Core.Path.{_≡_};
-ghost use Prim.Native.Nat.{_-_};
+ghost use Prim.Native.Nat.{_-_, _≤_};
 ghost use lib.Dec.{eqb};
 ghost use Rattle.rules.specs.Words.{if_then_else_};
-ghost use Rattle.rules.specs.Settings.{delay, reversion};
+ghost use Rattle.rules.specs.Settings.{delayTicks, reversion};
 ghost use Rattle.rules.specs.Week.{busy};
 ghost use Rattle.rules.specs.Selection as selection;
 ghost use Rattle.rules.specs.Selection.{waitAfter};
 ghost use Rattle.rules.specs.Registers.{settingsFrom};
 ghost use Rattle.inputs.specs.Bridge.{inputsOf, withSoak};
 ghost use Rattle.inputs.specs.declared.Monitors as stored;
-ghost use Rattle.waits.specs.Handed.{ticksOf};
 ghost use Rattle.week.specs.Bridge.{windowsOf};
 ghost use Rattle.selection.specs.Bridge.{choiceOf, Follows};
 use arith::both;
@@ -26,7 +25,7 @@ use registers::Registers;
 use registers::is_automatic;
 use registers::is_revertive;
 use registers::setting;
-use waits::ticks_of;
+use waits::delay_ticks;
 use week::Windows;
 use week::is_busy;
 
@@ -100,24 +99,22 @@ fn waiting(wait: u32, b: u32, c: Choice) -> Choice
     }
 }
 
-// The rule `reverted`: the reversion to `b`, with a delay of so many minutes, of which the ticks may have been handed on. A wait that is not over by what was
-// handed is not over. The table is looked at only where it is, and then the windows: until then the wait rises in them as outside.
+// The rule `reverted`: the reversion to `b`, with a delay of so many minutes, of which a floor was handed on. A wait that is not over by the floor is not over,
+// and rises in a window as outside: table and windows are looked at only where it is.
 fn reverted(windows: &Windows, place: u32, handed: u32, minutes: u8, b: u32, c: Choice) -> Choice
-    ensures { λ r. ⌜ choiceOf r ≡ selection.reverted (busy (windowsOf (now (windows .entry))) place) (ticksOf handed minutes) b (choiceOf c) ⌝ }
+    ensures { λ r. ⌜ (handed ≤ delayTicks minutes → choiceOf r ≡ selection.reverted (busy (windowsOf (now (windows .entry))) place) (delayTicks minutes) b (choiceOf c)) ⌝ }
 {
-    let wait = wait_after(false, handed, b, c);
-    if !switches(handed, wait) {
-        return waiting(wait, b, c);
+    let risen = wait_after(false, handed, b, c);
+    if !switches(handed, risen) {
+        return waiting(risen, b, c);
     }
-    let n = ticks_of(handed, minutes);
-    if !switches(n, wait) {
-        return waiting(wait, b, c);
-    }
+    let n = delay_ticks(minutes);
     let blocked = is_busy(windows, place);
-    if !blocked {
+    let wait = wait_after(blocked, n, b, c);
+    if both(!blocked, switches(n, wait)) {
         return settled(b);
     }
-    waiting(wait_after(true, n, b, c), b, c)
+    waiting(wait, b, c)
 }
 
 // ---- the choice
@@ -133,7 +130,7 @@ fn reselected(
     b: u32,
     c: Choice,
 ) -> Choice
-    ensures { λ r. ⌜ ((m : stored.Monitors) → ticksOf handed (delay (settingsFrom (now (regs .entry)))) ≡ reversion (settingsFrom (now (regs .entry))) → choiceOf r ≡ selection.reselected (busy (windowsOf (now (windows .entry))) place) (settingsFrom (now (regs .entry))) (inputsOf (withSoak m (now (soak .entry)))) b (choiceOf c)) ⌝ }
+    ensures { λ r. ⌜ ((m : stored.Monitors) → handed ≤ reversion (settingsFrom (now (regs .entry))) → choiceOf r ≡ selection.reselected (busy (windowsOf (now (windows .entry))) place) (settingsFrom (now (regs .entry))) (inputsOf (withSoak m (now (soak .entry)))) b (choiceOf c)) ⌝ }
 {
     if c.selected == b {
         return settled(b);
@@ -161,7 +158,7 @@ fn manual(soak: &Row, regs: &Registers) -> Choice
     settled(0)
 }
 
-// The rule `chosen`: the choice of a tick at a place, where keys and delay follow from the registers.
+// The rule `chosen`: the choice of a tick at a place, where the keys and the floor of the delay follow from the registers.
 pub fn chosen(
     soak: &Row,
     regs: &Registers,

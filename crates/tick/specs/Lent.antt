@@ -33,7 +33,8 @@ across level decay activity frequency remainder soak regs windows sums building 
     says (entering level decay activity frequency remainder soak regs windows sums building)
     (leaving level decay activity frequency remainder soak regs windows sums building)
 
--- What is made once and handed to the ticks: the numbers of each input's set follow from the sets of unit s, the keys and the delay from the registers.
-pub record Handed (sizes highs lows lasts regs keys : Row) (delay : ℕ) (s : Stored) : Type 0 where
+-- What is made once and handed to the ticks: the numbers of each input's set follow from the sets of unit s, the keys and the floor of the delay from the
+-- registers.
+pub record Handed (sizes highs lows lasts regs keys : Row) (floor : ℕ) (s : Stored) : Type 0 where
   pub lanes : numbers (now (sizes .entry)) (now (highs .entry)) (now (lows .entry)) (now (lasts .entry)) ≡ numbersOf (s .buckets)
-  pub follows : Follows (settingsFrom (now (regs .entry))) (now (keys .entry)) delay
+  pub follows : Follows (settingsFrom (now (regs .entry))) (now (keys .entry)) floor

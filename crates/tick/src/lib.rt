@@ -45,7 +45,7 @@ fn alarmed(selected: u32, p: Loop, remainder: &mut Row, soak: &mut Row)
     }
 }
 
-// The rule `ticked`, where the numbers are those of each input's set, and keys and delay follow from the registers.
+// The rule `ticked`, where the numbers are those of each input's set, and the keys and the floor of the delay follow from the registers.
 pub fn tick(
     mask: u8,
     lock: bool,

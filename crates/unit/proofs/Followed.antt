@@ -1,6 +1,7 @@
--- The delay that is handed on follows from the registers after a write too.
-use Prim.Native.Nat.{ℕ}
+-- What is handed on is a floor of the registers' delay after a write too.
+use Prim.Native.Nat.{ℕ, _≤_}
 use mathlib.Core.Path.{_≡_, refl, ap, sym, _∙_}
+use native.Mathlib.Omega.{arith}
 use mathlib.Core.Bool.{Bool, false}
 use lib.Dec.{eqb}
 use borrow.Author.Tests.{eqb-false, ne-eqb}
@@ -8,13 +9,6 @@ use Rattle.rules.specs.Words.{if_then_else_}
 use Rattle.rules.specs.Settings.{Settings, delay, delayTicks, reversion}
 use Rattle.rules.specs.Registers.{written}
 use Rattle.rules.proofs.Tests.{if-case}
-use Rattle.waits.specs.Handed.{ticksOf, unread}
-
--- a delay that was looked up is the one of its minutes
-looked-up : (minutes : ℕ) → ticksOf (delayTicks minutes) minutes ≡ delayTicks minutes
-unfolding ticksOf
-looked-up minutes =
-    if-case (λ n. n ≡ delayTicks minutes) (eqb (delayTicks minutes) unread) (λ _. refl) (λ _. refl)
 
 -- a write at another address leaves the minutes
 same-minutes : (set : Settings) (a v : ℕ) → eqb a 0x43 ≡ false → (if eqb a 0x26 then set else written a v set) 0x43 ≡ set 0x43
@@ -26,12 +20,12 @@ same-minutes set a v other =
 pub delay-follows : (set after : Settings) (a v n m : ℕ)
     → after ≡ (if eqb a 0x26 then set else written a v set)
     → m ≡ (if eqb a 0x43 then delayTicks (delay after) else n)
-    → ticksOf n (delay set) ≡ reversion set
-    → ticksOf m (delay after) ≡ reversion after
+    → n ≤ reversion set
+    → m ≤ reversion after
 delay-follows set after a v n m is made follows =
     rw made
-    (if-case (λ k. ticksOf k (delay after) ≡ reversion after) (eqb a 0x43)
-    (λ _. looked-up (delay after))
+    (if-case (λ k. k ≤ reversion after) (eqb a 0x43)
+    (λ _. omega arith)
     (λ other.
     let same : delay after ≡ delay set = ap delay is ∙ same-minutes set a v other in
-    ap (ticksOf n) same ∙ follows ∙ ap delayTicks (sym same)))
+    rw same follows))

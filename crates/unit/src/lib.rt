@@ -30,7 +30,6 @@ use history::Sums;
 use history::Tally;
 use registers::Registers;
 use state::Core;
-use waits::UNREAD;
 use week::Windows;
 
 // The four events.
@@ -189,7 +188,7 @@ fn write_accepted(
     t
 }
 
-// The delay that is handed on after a write at a: looked up anew if that is 0x43.
+// The floor of the delay that is handed on after a write at a: the delay itself, looked up, if that is 0x43.
 fn delay_after(a: u8, regs: &Registers, handed: u32) -> u32
     ensures { λ r. ⌜ r ≡ (if eqb a 0x43 then delayTicks (delay (settingsFrom (now (regs .entry)))) else handed) ⌝ }
 {
@@ -199,7 +198,7 @@ fn delay_after(a: u8, regs: &Registers, handed: u32) -> u32
     handed
 }
 
-// The rule `outcome` of a write: accepted, or the first of refusals 1, 2, 3, 4 and 8 that fits. The keys are made anew, and by a write of 0x43 the delay.
+// The rule `outcome` of a write: accepted, or the first of refusals 1, 2, 3, 4 and 8 that fits. The keys are made anew, and by a write of 0x43 the floor.
 pub fn write(
     a: u8,
     v: u8,
@@ -241,8 +240,8 @@ pub fn write(
 
 // ---- an event
 
-// The rule `outcome`, with every array of the state lent but those of the sets, and beside them the numbers of each input's set, and the keys and the delay of
-// the registers. A write takes a copy of the core and its answer is copied: lent to that call, the core would lie in memory at each tick.
+// The rule `outcome`, with every array of the state lent but those of the sets, and beside them the numbers of each input's set, the keys of the registers, and
+// a floor of their delay. A write takes a copy of the core and its answer is copied: lent to that call, the core would lie in memory at each tick.
 pub fn step(
     e: Event,
     k: Core,
@@ -312,8 +311,8 @@ pub fn step(
 
 // ---- a unit whose arrays are lent
 
-// The rule `outcome`: an event's number, and the core that it leaves. What a tick is handed is made here: the numbers of each input's set, the keys, and no
-// delay. No other event needs it.
+// The rule `outcome`: an event's number, and the core that it leaves. What a tick is handed is made here: the numbers of each input's set, the keys, and a floor
+// of the delay. No other event needs it.
 pub fn handle(
     e: Event,
     k: Core,
@@ -346,6 +345,7 @@ pub fn handle(
             let lows = numbers.lows;
             let lasts = numbers.lasts;
             let keys = candidates::keys_of(regs);
+            let floor = waits::delay_floor(registers::setting(regs, 0x43));
             on_tick(
                 mask,
                 lock,
@@ -363,7 +363,7 @@ pub fn handle(
                 &lasts,
                 regs,
                 &keys,
-                UNREAD,
+                floor,
                 windows,
                 sums,
                 building,
@@ -379,7 +379,7 @@ pub fn handle(
         Event::Hit => on_hit(k, soak),
         Event::Write(a, v) => {
             let mut keys = [0u16; 9];
-            let mut handed = UNREAD;
+            let mut handed = 0;
             let copy = k;
             let s = write(
                 a,

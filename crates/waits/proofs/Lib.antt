@@ -1,2 +1,3 @@
--- A law of tables, which the proof of the table of waits cites.
+-- Laws of the delay and of tables.
+pub mod Floor
 pub mod Table

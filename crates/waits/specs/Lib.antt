@@ -1,2 +1,2 @@
 -- What the contracts of the delay cite.
-pub mod Handed
+pub mod Floor

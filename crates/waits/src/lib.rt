@@ -1,9 +1,8 @@
 // The reversion delay in ticks (document 02, #103: "a table of 256 numbers, one for each delay in minutes"). The compiler builds a constant array anew on the
-// stack for each use, so a delay is looked up after a write of 0x43 and handed to the ticks; where none is handed, it is looked up where it is needed.
+// stack for each use, so the ticks are handed a floor of the delay, a number that is not above it, and look the delay up where a wait is over by the floor.
 ghost use mathlib.Core.Path.{_≡_};
-ghost use Prim.Native.Nat.{_<_};
 ghost use Rattle.rules.specs.Settings.{delayTicks};
-ghost use Rattle.waits.specs.Handed.{ticksOf, unread};
+ghost use Rattle.waits.specs.Floor.{delayFloor};
 
 // The table: entry m has the ticks of m minutes.
 const WAITS: [u32; 256] = [
@@ -273,15 +272,9 @@ pub fn delay_ticks(minutes: u8) -> u32
     WAITS[m]
 }
 
-// What is handed where the delay has not been looked up. No delay has these ticks but that of 0 minutes.
-pub const UNREAD: u32 = 0;
-
-// A delay that was handed on, or the one of these minutes.
-pub fn ticks_of(handed: u32, minutes: u8) -> u32
-    ensures { λ r. ⌜ r ≡ ticksOf handed minutes ⌝ }
+// A floor of the delay, made without the table: not above it by `floor-le` in proofs/Floor.
+pub fn delay_floor(minutes: u8) -> u32
+    ensures { λ r. ⌜ r ≡ delayFloor minutes ⌝ }
 {
-    if handed == UNREAD {
-        return delay_ticks(minutes);
-    }
-    handed
+    468 * minutes as u32
 }

@@ -1,4 +1,4 @@
--- After i events their records are written, and the rest, run from the state so far, gives the rest of them. Keys and delay follow the registers.
+-- After i events their records are written, and the rest, run from the state so far, gives the rest of them. Keys and floor follow the registers.
 use Prim.Native.Nat.{ℕ, _≤_, _<_, _-_, _*_, _+_, _^_}
 use mathlib.Core.Path.{_≡_, sym, ap, _∙_}
 use mathlib.Core.List.{List}

@@ -1,6 +1,6 @@
 -- A refused sheet writes nothing; else the settings' records are written at the front, and the events' behind them.
 use Prim.Native.Nat.{ℕ, _+_, _*_, _≤_}
-use mathlib.Core.Path.{_≡_, refl, ap, sym, _∙_}
+use mathlib.Core.Path.{_≡_, ap, sym, _∙_}
 use mathlib.Core.List.{List}
 use native.Mathlib.Omega.{arith}
 use lib.ListN.{length, length-drop}
@@ -9,7 +9,7 @@ use Rattle.rules.specs.Sheet.{settingsCount, eventsAt, eventsCount, sheetEnd, r
 use Rattle.rules.proofs.Sheets.{outputs}
 use Rattle.sheet.proofs.Numbers.{runs}
 use Rattle.rules.proofs.Parts.{part-all}
-use Rattle.waits.specs.Handed.{ticksOf}
+use Rattle.waits.proofs.Floor.{floor-le}
 use Rattle.run.proofs.Ran.{refused, all-written}
 use Rattle.run.proofs.run_into.Statement.{statement}
 use denote.Ref.{now}
@@ -49,23 +49,24 @@ returns c =
 
 -- what the settings' run found and left
 abbrev counted : tie.After-run-settings → tie.After-counts-of
-counted c = c .before .before .before .before .before .before .before .before .before .before .before .before .before .before .before .before .before .before .before .before
+counted c = c .before .before .before .before .before .before .before .before .before .before .before .before .before .before .before .before .before .before .before .before .before .before .before
 
 sub-run-settings : tie.Need-sub-run-settings
-sub-run-settings c = omega (arith, sizes (c .before .before .before .before .before .before .before .before .before .before) .whole)
+sub-run-settings c = omega (arith, sizes (c .before .before .before .before .before .before .before .before .before .before .before .before .before) .whole)
 
 part-run-settings-start : tie.Need-part-run-settings-start
-part-run-settings-start c = omega (arith, sizes (c .before .before .before .before .before .before .before .before .before .before) .whole)
+part-run-settings-start c = omega (arith, sizes (c .before .before .before .before .before .before .before .before .before .before .before .before .before) .whole)
 
 run-settings-requires : tie.Need-run-settings-requires
-unfolding ticksOf
 run-settings-requires c κs =
-    let keyed = c .before .before .before .before .before .before .before .before .before .before in
+    let floored = c .before .before .before .before .before .before .before .before .before .before in
+    let read = floored .before in
+    let keyed = read .before .before in
     let begun = keyed .before .before .before .before .before .before .before .before .before in
     let z = sizes begun in (
       rw part-all (omega (arith, z .whole, length-drop 2 (now (begun .before .before .before .before .before .args .sheet)))),
       omega (arith, z .room-for),
-      record { keyed = keyed .keys-of .ensures; delayed = refl },
+      record { keyed = keyed .keys-of .ensures; delayed = rw (floored .delay-floor .ensures, read .setting .ensures) (floor-le _) },
     )
 
 sub-run-events : tie.Need-sub-run-events
@@ -105,7 +106,7 @@ returns-2 c =
     let s = c .before .before .before .before .before .before .before .before .before .before .before .before .before in
     let settled = s .run-settings in
     let begun = counted s in
-    let u = s .before .before .before .before .before .before .before .before .before .before .before .before .before .before .before .before .before .before .before .fresh in
+    let u = s .before .before .before .before .before .before .before .before .before .before .before .before .before .before .before .before .before .before .before .before .before .before .fresh in
     let made = u .result in
     let n = counts begun in
     let a = begun .before .before .before .before .before .args in
@@ -128,6 +129,8 @@ run-into-spec =
     (tie.spec
     (search needs)
     returns
+    (search needs)
+    (search needs)
     (search needs)
     (search needs)
     (search needs)

@@ -1,4 +1,4 @@
--- After i settings their records are written, and the rest, run from the state so far, gives the rest of them and the same state. Keys and delay follow the
+-- After i settings their records are written, and the rest, run from the state so far, gives the rest of them and the same state. Keys and floor follow the
 -- registers.
 use Prim.Native.Nat.{ℕ, _≤_, _<_, _-_, _*_, _+_, _^_}
 use mathlib.Core.List.{List}

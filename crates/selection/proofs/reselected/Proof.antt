@@ -1,4 +1,5 @@
 -- The automatic choice: an arm of the rule for each return.
+use Prim.Native.Nat.{ℕ}
 use mathlib.Core.Path.{_≡_, refl, ap, sym, _∙_}
 use mathlib.Core.Bool.{Bool, true, false, not}
 use borrow.Author.Needs.{needs}
@@ -8,8 +9,7 @@ use Rattle.rules.specs.Selection.{candidate, settled, reverted, reselected}
 use Rattle.rules.specs.Registers.{settingsFrom}
 use Rattle.rules.specs.Week.{busy}
 use Rattle.week.specs.Bridge.{windowsOf}
-use Rattle.rules.specs.Settings.{revertive}
-use Rattle.waits.specs.Handed.{ticksOf}
+use Rattle.rules.specs.Settings.{revertive, delayTicks}
 use Rattle.inputs.specs.Bridge.{inputsOf, withSoak}
 use Rattle.selection.specs.Bridge.{choiceOf}
 use Rattle.selection.proofs.reselected.Statement.{statement}
@@ -32,8 +32,10 @@ unfolding reselected
 returns-2 c m d =
     let a = c .before .before .before .before .before .before .before .before .args in
     let reverts : revertive (settingsFrom (a .regs .now)) (a .c .selected) ≡ true = sym (c .before .before .before .is-revertive .ensures) ∙ c .before .before .if3 .taken in
+    let minutes = c .before .setting .ensures in
     rw (← c .before .before .before .before .before .is-candidate .ensures m, c .before .before .before .before .if2 .taken, ne-eqb _ _ (c .before .before .before .before .before .before .if1 .left), reverts)
-    (c .reverted .ensures ∙ ap (λ n. reverted (busy (windowsOf (a .windows .now)) (a .place)) n (a .b) (choiceOf (a .c))) (ap (ticksOf (a .handed)) (c .before .setting .ensures) ∙ d))
+    (c .reverted .ensures (rw minutes d)
+    ∙ ap (λ (k : ℕ). reverted (busy (windowsOf (a .windows .now)) (a .place)) (delayTicks k) (a .b) (choiceOf (a .c))) minutes)
 
 returns-3 : tie.Need-returns-3
 unfolding reselected

@@ -1,92 +1,84 @@
--- The reversion: a wait that is not over goes on; one that is over is kept in a window, and ends outside. A delay that was not looked up is 0, by which every
--- wait is over.
-use Prim.Native.Nat.{ℕ, zero, suc, _-_}
+-- The reversion. A wait that is not over by the floor is not over by the delay: it goes on, in a window or not. Otherwise the code is the rule, with the delay
+-- that is looked up.
+use Prim.Native.Nat.{ℕ, _-_, _≤_}
 use mathlib.Core.Path.{_≡_, refl, ap, sym, _∙_}
-use mathlib.Core.Bool.{Bool, true, false, true≢false}
+use mathlib.Core.Bool.{Bool, false, not, _&&_}
 use native.Mathlib.Omega.{arith}
-use borrow.Author.Tests.{le-leb, ne-eqb, not-false}
+use borrow.Author.Tests.{leb-false, lt-leb}
+use Rattle.rules.specs.Settings.{delayTicks}
 use Rattle.rules.specs.Selection.{Choice, waitAfter, switches, reverted}
 use Rattle.rules.specs.Week.{busy}
 use Rattle.rules.proofs.Tests.{not-true}
-use Rattle.rules.proofs.BusyHours.{not-over, kept, switched}
-use Rattle.waits.specs.Handed.{ticksOf}
+use Rattle.rules.proofs.BusyHours.{not-over}
 use Rattle.week.specs.Bridge.{windowsOf}
 use Rattle.selection.specs.Bridge.{choiceOf}
 use Rattle.selection.proofs.reverted.Statement.{statement}
 use Rattle.selection.proofs.reverted.Tie as tie
 
--- a delay by which a wait is not over was looked up
-handed-is : (handed minutes wait : ℕ) → switches handed wait ≡ false → ticksOf handed minutes ≡ handed
-unfolding switches ticksOf
-handed-is zero minutes wait e = absurd (true≢false (sym (le-leb 0 (wait - 1) (omega arith)) ∙ e))
-handed-is (suc n) minutes wait e = rw (ne-eqb (suc n) 0 (λ z. omega arith)) refl
+-- a longer delay is not over where a shorter one is not
+nor-longer : (m n wait : ℕ) → m ≤ n → switches m wait ≡ false → switches n wait ≡ false
+unfolding switches
+nor-longer m n wait h e = lt-leb n (wait - 1) (omega (arith, leb-false m (wait - 1) e))
 
 -- outside a window the wait rises whatever the delay is
 any-delay : (m n b : ℕ) (c : Choice) → waitAfter false m b c ≡ waitAfter false n b c
 unfolding waitAfter
 any-delay m n b c = refl
 
--- the delay
+-- the delay, and whether a window blocks the switch
 abbrev delayed : tie.Start → ℕ
-delayed c = ticksOf (c .args .handed) (c .args .minutes)
+delayed c = delayTicks (c .args .minutes)
 
--- the wait with this tick
-risen : (c : tie.After-wait-after) → let a = c .before .args in c .wait-after .result ≡ waitAfter false (delayed (c .before)) (a .b) (choiceOf (a .c))
-risen c = let a = c .before .args in c .wait-after .ensures ∙ any-delay (a .handed) (delayed (c .before)) (a .b) (choiceOf (a .c))
-
--- whether it is over outside a window
-over : (c : tie.After-switches2)
-    → let start = c .before .before .before .before .before in
-    let a = start .args in
-    c .switches2 .result ≡ switches (delayed start) (waitAfter false (delayed start) (a .b) (choiceOf (a .c)))
-over c = c .switches2 .ensures ∙ (λ i. switches (c .before .ticks-of .ensures i) (risen (c .before .before .before .before) i))
+abbrev blocked : tie.Start → Bool
+blocked c = busy (windowsOf (c .args .windows .now)) (c .args .place)
 
 returns : tie.Need-returns
-returns c =
+returns c below =
     let tested = c .before .before in
     let known = tested .before in
     let start = known .before in
     let a = start .args in
-    let blocked = busy (windowsOf (a .windows .now)) (a .place) in
-    let goes-on = sym (tested .switches .ensures ∙ ap (switches (a .handed)) (known .wait-after .ensures)) ∙ not-true _ (c .before .if1 .taken) in
+    let risen = known .wait-after .ensures ∙ any-delay (a .handed) (delayed start) (a .b) (choiceOf (a .c)) in
+    let goes-on = sym (tested .switches .ensures ∙ ap (switches (a .handed)) risen) ∙ not-true _ (c .before .if1 .taken) in
     c .waiting .ensures
-    ∙ (λ i. record { selected = a .c .selected; wait = known .wait-after .ensures i; awaited = a .b })
-    ∙ sym (not-over (a .handed) (a .b) (choiceOf (a .c)) blocked goes-on)
-    ∙ ap (λ (n : ℕ). reverted blocked n (a .b) (choiceOf (a .c))) (sym (handed-is (a .handed) (a .minutes) _ goes-on))
+    ∙ (λ i. record { selected = a .c .selected; wait = risen i; awaited = a .b })
+    ∙ sym (not-over (delayed start) (a .b) (choiceOf (a .c)) (blocked start) (nor-longer (a .handed) (delayed start) _ below goes-on))
+
+-- the wait, with the delay that is looked up
+wait-is : (c : tie.After-wait-after2)
+    → let start = c .before .before .before .before .before .before in
+    let a = start .args in
+    c .wait-after2 .result ≡ waitAfter (blocked start) (delayed start) (a .b) (choiceOf (a .c))
+wait-is c =
+    let found = c .before in
+    let a = found .before .before .before .before .before .args in
+    c .wait-after2 .ensures ∙ (λ i. waitAfter (found .is-busy .ensures i) (found .before .delay-ticks .ensures i) (a .b) (choiceOf (a .c)))
+
+-- whether the switch comes
+switch-is : (c : tie.After-both)
+    → let start = c .before .before .before .before .before .before .before .before in
+    let a = start .args in
+    let n = delayed start in
+    c .both .result ≡ (not (blocked start) && switches n (waitAfter (blocked start) n (a .b) (choiceOf (a .c))))
+switch-is c =
+    let waited = c .before .before in
+    let found = waited .before in
+    c .both .ensures
+    ∙ (λ i. not (found .is-busy .ensures i) && c .before .switches2 .ensures i)
+    ∙ (λ i. not (blocked (found .before .before .before .before .before)) && switches (found .before .delay-ticks .ensures i) (wait-is waited i))
 
 returns-2 : tie.Need-returns-2
-returns-2 c =
-    let tested = c .before .before in
-    let known = tested .before .before .before .before in
-    let a = known .before .args in
-    c .waiting2 .ensures
-    ∙ (λ i. record { selected = a .c .selected; wait = risen known i; awaited = a .b })
-    ∙ sym (not-over (delayed (known .before)) (a .b) (choiceOf (a .c)) (busy (windowsOf (a .windows .now)) (a .place)) (sym (over tested) ∙ not-true _ (c .before .if2 .taken)))
+unfolding reverted
+returns-2 c below = rw (sym (switch-is (c .before .before)) ∙ c .before .if2 .taken) (c .settled .ensures)
 
 returns-3 : tie.Need-returns-3
-returns-3 c =
-    let found = c .before .before in
-    let tested = found .before .before in
-    let start = tested .before .before .before .before .before in
-    let a = start .args in
-    let free = sym (not-true _ (c .before .if3 .taken)) ∙ found .is-busy .ensures in
-    c .settled .ensures
-    ∙ sym (switched (delayed start) (a .b) (choiceOf (a .c)) (sym (over tested) ∙ not-false _ (found .before .if2 .left)))
-    ∙ ap (λ (t : Bool). reverted t (delayed start) (a .b) (choiceOf (a .c))) free
-
-returns-4 : tie.Need-returns-4
-returns-4 c =
-    let known = c .before in
-    let found = known .before .before in
-    let looked = found .before .before .before in
-    let start = looked .before .before .before .before in
-    let a = start .args in
-    let blocked = sym (not-false _ (known .before .if3 .left)) ∙ found .is-busy .ensures in
-    let wait = known .wait-after2 .ensures ∙ ap (λ (n : ℕ). waitAfter true n (a .b) (choiceOf (a .c))) (looked .ticks-of .ensures) in
-    c .waiting3 .ensures
-    ∙ (λ i. record { selected = a .c .selected; wait = wait i; awaited = a .b })
-    ∙ sym (kept (delayed start) (a .b) (choiceOf (a .c)))
-    ∙ ap (λ (t : Bool). reverted t (delayed start) (a .b) (choiceOf (a .c))) blocked
+unfolding reverted
+returns-3 c below =
+    let tested = c .before .before in
+    let waited = tested .before .before in
+    let a = waited .before .before .before .before .before .before .args in
+    rw (sym (switch-is tested) ∙ c .before .if2 .left)
+    (c .waiting2 .ensures ∙ (λ i. record { selected = a .c .selected; wait = wait-is waited i; awaited = a .b }))
 
 pub reverted-spec : {M : Type 1} → statement M
 reverted-spec =
@@ -99,10 +91,9 @@ reverted-spec =
     (λ c κs. tt)
     (λ c κs. tt)
     (λ c κs. tt)
+    (λ c κs. tt)
+    (λ c κs. tt)
+    (λ c κs. tt)
     returns-2
     (λ c κs. tt)
-    (λ c κs. tt)
-    returns-3
-    (λ c κs. tt)
-    (λ c κs. tt)
-    returns-4)
+    returns-3)

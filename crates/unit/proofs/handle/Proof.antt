@@ -1,12 +1,12 @@
 -- Each event is handled by its own function, with the arrays that it changes; the others stay. A tick is handed the numbers of the sets, the keys of the
--- registers, and no delay.
-use mathlib.Core.Path.{_≡_, refl}
+-- registers, and a floor of their delay.
+use mathlib.Core.Path.{_≡_}
 use denote.Ref.{now}
 use mir.Syntax.{w16, w32}
 use mir.Val.{toZ, ofZ}
 use borrow.Author.Needs.{needs}
 use Rattle.rules.specs.Events.{tickWith, measurement}
-use Rattle.waits.specs.Handed.{ticksOf}
+use Rattle.waits.proofs.Floor.{floor-le}
 use Rattle.state.specs.Stored.{Stored}
 use Rattle.unit.proofs.Given.{same-event}
 use Rattle.unit.proofs.handle.Statement.{statement}
@@ -41,16 +41,20 @@ offset : (c : tie.After-known-told2) → let x = c .before .e2 .given .0 .1 .0 i
 offset c = search needs
 
 returns : tie.Need-returns
-unfolding ticksOf
 returns c =
-    let keyed = c .before .before .before .before .before .before .before .before .before .before .before .before .before .before .before in
+    let floored = c .before .before .before .before .before .before .before .before .before .before .before .before .before .before .before in
+    let read = floored .before in
+    let keyed = read .before .before in
     let numbered = keyed .before .before .before .before .before .before in
     let known = numbered .before .before .before in
     let told = known .before in
     rw (told .e .given .1)
     (same-event (λ i. tickWith (told .e .given .0 .0) (told .e .given .0 .1 .0) (sample known i))
     (c .on-tick .ensures (found (told .before .before))
-    (record { lanes = numbered .numbers-of .ensures; follows = record { keyed = keyed .keys-of .ensures; delayed = refl } })))
+    (record {
+      lanes = numbered .numbers-of .ensures;
+      follows = record { keyed = keyed .keys-of .ensures; delayed = rw (floored .delay-floor .ensures, read .setting .ensures) (floor-le _) };
+    })))
 
 returns-2 : tie.Need-returns-2
 returns-2 c =
@@ -75,6 +79,8 @@ handle-spec =
     tie.close
     (tie.spec
     (search needs)
+    (λ c κs. tt)
+    (λ c κs. tt)
     (λ c κs. tt)
     (λ c κs. tt)
     (λ c κs. tt)

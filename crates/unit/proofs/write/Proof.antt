@@ -1,4 +1,4 @@
--- Accepted when the registers' test gives 0, or turned down with its number. Keys and delay are made of the registers as they then are.
+-- Accepted when the registers' test gives 0, or turned down with its number. Keys and floor are made of the registers as they then are.
 use mathlib.Core.Path.{_≡_, refl, sym, _∙_}
 use denote.Ref.{now}
 use Rattle.rules.specs.Events.{write}
