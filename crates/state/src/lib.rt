@@ -118,11 +118,11 @@ pub fn make_with(
     let copy = *values;
     *regs = copy;
     let tally = history::fresh_tally();
-    let choice = selection::settled(0);
+    let none_selected = selection::settled(0);
     let p = pll::fresh_loop();
     Core {
         tally: tally,
-        choice: choice,
+        choice: none_selected,
         holding: 0,
         place: 0,
         pll: p,
