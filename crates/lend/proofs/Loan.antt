@@ -12,7 +12,7 @@ use base.Logic.{ent}
 use base.Fml.{Fml, GName, Lft, Share, fat, flft, flent, fres, fsep}
 use prog.Wp.{Heap}
 use ghost.Atoms.{Atoms, sem}
-use types.Kit.{Given, Item, Goal, Seq, Soaks, ‵, some, later, given, _⊛_, mean, _$_, _∵_, !, qed, move, drop, use1, use2, use3, split, pick, learn, check, fpick, fpack, rewrite, fsplit, fjoin, await, done}
+use types.Kit.{Given, Item, Goal, Seq, Soaks, ‵, some, later, given, _⊛_, mean, _$_, _∵_, !, qed, move, drop, use1, use3, split, pick, learn, check, fpick, fpack, rewrite, fsplit, fjoin, await, done}
 use types.SemTy.{Body}
 use types.Tokens.{lft-new, lft-end, lent-back}
 use denote.Exit.{Exit, unchanged, leaves, only-seen, if-kept, Last, Seen, left, see}
@@ -109,6 +109,10 @@ abbrev pub Fits : Mode → Share → Type 0
 Fits mutable q = q ≡ fullShare
 Fits shared q = Unit {0}
 
+pub whole-fits : (m : Mode) → Fits m fullShare
+whole-fits mutable = refl
+whole-fits shared = tt
+
 -- the lender's part
 abbrev pub lender : Mode → Share → Lft → (s : Stretch) → Elements s → ℕ → ℕ → GName → Fml
 lender mutable q κ s l b o δ = flent κ (Body (mem (Row s)) b o δ)
@@ -143,6 +147,10 @@ Shared shared = Unit {0}
 pub settled-same : (m : Mode) → Shared m → (s : Stretch) (l : Elements s) (z : Change m s) → settled m s l z ≡ l
 settled-same mutable is s l z = absurd is
 settled-same shared is s l z = refl
+
+pub shared-fits : (m : Mode) → Shared m → (q : Share) → Fits m q
+shared-fits mutable is q = absurd is
+shared-fits shared is q = tt
 
 module _ {M : Type 1} (𝓤 : URA M) (H : Heap 𝓤) (A : Atoms 𝓤) (W : Given 𝓤 H A) (q : Share) (s : Stretch) (l : Elements s) (b o : ℕ) where
   lies-in : Sound s l → ent 𝓤 (H .at q (ty s) b o (val s (up l))) (sem 𝓤 H A (partAt (Row s) q (up l) b o))

@@ -1,5 +1,4 @@
 -- `host::unit_assign_bucket` meets its contract: three rows, the sets and their assignment are lent.
-use mathlib.Core.Path.{refl}
 use mathlib.Core.List.{[], _∷_}
 use mir.Syntax.{w8}
 use Rattle.rules.specs.Events.{assignBucket}
@@ -27,5 +26,5 @@ unit-assign-bucket-spec 𝓤 H 𝓜 𝓖 𝓡 =
     (assignBucket (x .0) (x .1 .0)) r
     (withSets (record { sets = zs .1 .1 .1 .0; assigned = zs .1 .1 .1 .1 .0 }) (withRows (withActivity (s .monitors) (zs .0) (zs .1 .0) (zs .1 .1 .0)) s)))
     (λ h x n h′. Leads h (given (event (assignBucket (x .0) (x .1 .0)))) n h′)
-    (refl, (refl, (refl, (tt, (refl, tt))))) (λ h x r zs e. e h)
+    (λ h x r zs e. e h)
     name callee.name callee.routine code.calls-calls·assign-bucket (callee-thm.met 𝓤 H 𝓜 𝓖 𝓡) (code.unfolded 𝓤 H 𝓜 𝓡)

@@ -1,5 +1,4 @@
 -- `host::unit_event` meets its contract: every array is lent, the sets, their assignment and the windows for reading.
-use mathlib.Core.Path.{refl}
 use mathlib.Core.List.{[], _∷_}
 use mir.Syntax.{w8, w32}
 use Rattle.rules.specs.Sheet.{fields}
@@ -18,9 +17,10 @@ use Rattle.host.proofs.unit_event.Code as code
 pub unit-event-spec : {M : Type 1} → stated.statement M
 unfolding code.routine
 unit-event-spec 𝓤 H 𝓜 𝓖 𝓡 =
-    stores 𝓤 H 𝓜 𝓖 𝓡 code.env (goes mutable ∷ goes mutable ∷ goes mutable ∷ goes mutable ∷ goes mutable ∷ goes mutable ∷ goes shared ∷ goes shared ∷ goes mutable ∷ goes mutable ∷ goes mutable ∷ goes shared ∷ goes mutable ∷ [])
+    stores 𝓤 H 𝓜 𝓖 𝓡 code.env
+    (goes mutable ∷ goes mutable ∷ goes mutable ∷ goes mutable ∷ goes mutable ∷ goes mutable ∷ goes shared ∷ goes shared ∷ goes mutable ∷ goes mutable ∷ goes mutable ∷ goes shared ∷ goes mutable ∷ [])
     (unsigned w8 ∷ unsigned w8 ∷ unsigned w8 ∷ signed w32 ∷ [])
     (λ k ls x r zs. Leads (make (k .0) ls) (given (fields (x .0) (x .1 .0) (x .1 .1 .0) (x .1 .1 .1 .0))) (r .refusal) (make (r .core) zs))
     (λ h x n h′. Leads h (given (fields (x .0) (x .1 .0) (x .1 .1 .0) (x .1 .1 .1 .0))) n h′)
-    (refl, (refl, (refl, (refl, (refl, (refl, (tt, (tt, (refl, (refl, (refl, (tt, (refl, tt))))))))))))) (λ h x r zs e. e) (λ h x n h′ e. e .left)
+    (λ h x r zs e. e) (λ h x n h′ e. e .left)
     name callee.name callee.routine code.calls-calls·event (callee-thm.met 𝓤 H 𝓜 𝓖 𝓡) (code.unfolded 𝓤 H 𝓜 𝓡)

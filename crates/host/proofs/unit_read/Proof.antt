@@ -18,5 +18,5 @@ unfolding code.routine
 unit-read-spec 𝓤 H 𝓜 𝓖 𝓡 =
     reads 𝓤 H 𝓜 𝓖 𝓡 code.env (stays ∷ stays ∷ stays ∷ stays ∷ stays ∷ goes shared ∷ stays ∷ stays ∷ goes shared ∷ stays ∷ stays ∷ stays ∷ goes shared ∷ []) (unsigned w8 ∷ [])
     (λ k ls x r zs. (s : Stored) → Shows (withCore (k .0) (withSoak (ls .0) (withSums (ls .1 .0) (withRegisters (ls .1 .1 .0) s)))) (x .0) r)
-    (λ h x r. Shows h (x .0) r) (λ q. (tt, (tt, (tt, tt)))) (tt, (tt, (tt, tt))) (λ h x r zs e. e h)
+    (λ h x r. Shows h (x .0) r) (tt, (tt, (tt, tt))) (λ h x r zs e. e h)
     name callee.name callee.routine code.calls-readout·read (callee-thm.met 𝓤 H 𝓜 𝓖 𝓡) (code.unfolded 𝓤 H 𝓜 𝓡)

@@ -18,5 +18,5 @@ unfolding code.routine
 unit-set-week-spec 𝓤 H 𝓜 𝓖 𝓡 =
     stores 𝓤 H 𝓜 𝓖 𝓡 code.env [] (unsigned w32 ∷ [])
     (λ k ls x r zs. (s : Stored) → Gives (withCore (k .0) s) (setWeek (x .0)) (r .refusal) (withCore (r .core) s))
-    (λ h x n h′. Leads h (given (event (setWeek (x .0)))) n h′) tt (λ h x r zs e. e h) (λ h x n h′ e. e .left)
+    (λ h x n h′. Leads h (given (event (setWeek (x .0)))) n h′) (λ h x r zs e. e h) (λ h x n h′ e. e .left)
     name callee.name callee.routine code.calls-calls·set-week (callee-thm.met 𝓤 H 𝓜 𝓖 𝓡) (code.unfolded 𝓤 H 𝓜 𝓡)

@@ -1,5 +1,4 @@
 -- `host::unit_set_windows` meets its contract: the windows are lent.
-use mathlib.Core.Path.{refl}
 use mathlib.Core.List.{[], _∷_}
 use mir.Syntax.{w8}
 use denote.Array.{Array}
@@ -27,5 +26,5 @@ unit-set-windows-spec 𝓤 H 𝓜 𝓖 𝓡 =
     passes-on 𝓤 H 𝓜 𝓖 𝓡 code.env (stays ∷ stays ∷ stays ∷ stays ∷ stays ∷ stays ∷ stays ∷ stays ∷ stays ∷ stays ∷ stays ∷ goes mutable ∷ [])
     (unsigned w8 ∷ params.shared (Array u32 16) ∷ [])
     (λ k ls x r zs. (s : Stored) → Gives (withWindows (ls .0) s) (setWindows (firstWindows (x .0) (now (x .1 .0)))) r (withWindows (zs .0) s))
-    (λ h x n h′. Leads h (given (event (setWindows (firstWindows (x .0) (now (x .1 .0)))))) n h′) (refl, tt) (λ h x r zs e. e h)
+    (λ h x n h′. Leads h (given (event (setWindows (firstWindows (x .0) (now (x .1 .0)))))) n h′) (λ h x r zs e. e h)
     name callee.name callee.routine code.calls-calls·set-windows (callee-thm.met 𝓤 H 𝓜 𝓖 𝓡) (code.unfolded 𝓤 H 𝓜 𝓡)
