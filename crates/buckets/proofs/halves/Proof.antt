@@ -1,12 +1,12 @@
 -- Of the four halves that of a set is half of its word.
 use Prim.Native.Nat.{ℕ, _/_, _%_}
-use mathlib.Core.Path.{_≡_, _∙_}
+use mathlib.Core.Path.{_∙_}
 use mathlib.Core.List.{[], _∷_}
 use native.Mathlib.Nat.{mod-lt}
 use native.Mathlib.Omega.{arith}
 use lib.ListN.{getD}
 use borrow.Author.Needs.{needs}
-use Rattle.buckets.specs.Bridge.{four, eight, wordOf}
+use Rattle.buckets.specs.Bridge.{eight, wordOf}
 use Rattle.buckets.proofs.Sets.{four-at}
 use Rattle.buckets.proofs.halves.Statement.{statement}
 use Rattle.buckets.proofs.halves.Tie as tie

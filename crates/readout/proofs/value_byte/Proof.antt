@@ -1,7 +1,6 @@
 -- A byte of the value's bits when Ready, else 0.
 use Prim.Native.Nat.{ℕ, _/_, _%_}
 use mathlib.Core.Path.{_≡_, refl, ap, _∙_}
-use native.Mathlib.Omega.{arith}
 use borrow.Author.Needs.{needs}
 use Rattle.rules.specs.Reading.{twos}
 use Rattle.history.proofs.Sums.{stored}

@@ -11,7 +11,6 @@ use borrow.Author.Needs.{needs}
 use Rattle.rules.specs.Registers.{settingsFrom}
 use Rattle.rules.specs.Sheet as rules
 use Rattle.rules.specs.Sheet.{bad, decode, eventsOf, records}
-use Rattle.rules.specs.State.{State}
 use Rattle.buckets.specs.Bridge.{numbers, numbersOf}
 use Rattle.inputs.specs.declared.Monitors.{Monitors}
 use Rattle.selection.specs.Bridge.{Follows}
