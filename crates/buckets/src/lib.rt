@@ -21,7 +21,7 @@ use arith::wide32;
 pub type Row = [u16; 8];
 
 // The sets, set 0 first, each in one word: from its lowest byte up the size, the set level, the clear level, and the last decay count. And the set of each
-// input, input 1 first: of its number the two lowest bits count. A word, since at each event of a host two of its halves are chosen for every input, side by
+// input, input 1 first: of its number the two lowest bits count. A word, since at each tick of a host two of its halves are chosen for every input, side by
 // side, and then taken apart: two choices in place of four.
 #[repr(C)]
 pub struct Buckets {

@@ -77,11 +77,6 @@ abbrev pub withTally : Tally → Stored → Stored
 withTally t s =
     withCore (record { tally = t; choice = s .core .choice; holding = s .core .holding; place = s .core .place; pll = s .core .pll }) s
 
--- another place in the week
-abbrev pub withPlace : ℕ → Stored → Stored
-withPlace place s =
-    withCore (record { tally = s .core .tally; choice = s .core .choice; holding = s .core .holding; place = place; pll = s .core .pll }) s
-
 -- other frequency alarms; other soaks
 abbrev pub withFrequency : List ℕ → Stored → Stored
 withFrequency frequency s = withRows (rows.withFrequency (s .monitors) frequency) s
