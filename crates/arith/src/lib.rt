@@ -1,7 +1,7 @@
 // Small functions on numbers that several crates use. None has an early return, so that eight lanes can be computed side by side.
 ghost use Rattle.std.specs.Prelude.{◌≡◌, ◌+◌, ◌-◌, ◌≤◌, ◌<◌, min, max, false, ◌&&◌, ◌||◌, [], ◌∷◌, get_or};
-ghost use Rattle.rules.specs.Words.{if◌then◌else◌, isInput, isTracked, isCounted};
-ghost use Rattle.rules.specs.Reading.{maskUpTo};
+ghost use Rattle.rules.specs.Words.{if◌then◌else◌, is_input, is_tracked, is_counted};
+ghost use Rattle.rules.specs.Reading.{mask_up_to};
 
 // The rules' choice by a test.
 // Not: always the first; the second where the test passes.
@@ -31,7 +31,7 @@ pub fn one_of(a: bool, b: bool) -> bool
 // The number of an input.
 // Not: 0 is one; 9 is one.
 pub fn is_input(i: u32) -> bool
-    ensures { result ≡ isInput i }
+    ensures { result ≡ is_input i }
 {
     both(1 <= i, i <= 8)
 }
@@ -39,7 +39,7 @@ pub fn is_input(i: u32) -> bool
 // A source that the PLL tracks.
 // Not: 0 is one; 9, Free Run, is one.
 pub fn is_tracked(c: u32) -> bool
-    ensures { result ≡ isTracked c }
+    ensures { result ≡ is_tracked c }
 {
     both(1 <= c, c <= 8)
 }
@@ -47,7 +47,7 @@ pub fn is_tracked(c: u32) -> bool
 // A reference that counts for the history.
 // Not: 0 is one; 9, Free Run, is one.
 pub fn is_counted(c: u32) -> bool
-    ensures { result ≡ isCounted c }
+    ensures { result ≡ is_counted c }
 {
     both(1 <= c, c <= 8)
 }
@@ -126,7 +126,7 @@ fn weigh16(c: bool, v: u16) -> u16
 // The mask of eight tests, the first in bit 0. It is summed in wider numbers, so that eight tests can be weighed side by side.
 // Not: a test in its neighbour's bit; the first test in bit 7.
 pub fn mask_of(a: bool, b: bool, c: bool, d: bool, e: bool, f: bool, g: bool, h: bool) -> u8
-    ensures { result ≡ maskUpTo (λ i. get_or (a ∷ b ∷ c ∷ d ∷ e ∷ f ∷ g ∷ h ∷ []) (i - 1) false) 8 }
+    ensures { result ≡ mask_up_to (λ i. get_or (a ∷ b ∷ c ∷ d ∷ e ∷ f ∷ g ∷ h ∷ []) (i - 1) false) 8 }
 {
     let sum = weigh16(h, 128)
         + (weigh16(g, 64)

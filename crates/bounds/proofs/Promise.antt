@@ -12,12 +12,12 @@ use Rattle.rules.specs.Events.{Event}
 use Rattle.rules.specs.State.{State}
 use Rattle.rules.specs.Run.{next, run}
 use Rattle.rules.specs.Preference.{Unmasked, Preferred}
-use Rattle.rules.specs.Service.{Provisos, AllFair, selectedTicks, readyTicks, acceptedTicks, Served}
+use Rattle.rules.specs.Service.{Provisos, AllFair, selected_ticks, ready_ticks, accepted_ticks, Served}
 use Rattle.rules.specs.Registers.{fresh}
 use Rattle.rules.proofs.Loading.{standard}
 use Rattle.rules.proofs.Service.{promise}
 use Rattle.rules.proofs.Computing.{computing}
-use Rattle.bounds.specs.Promise.{settings, alarmed, refilled, windowed, moment, oneTick, ticks, AlarmSet, BucketFull, WindowSet, AtStart, AtLargest, AtWindow}
+use Rattle.bounds.specs.Promise.{settings, alarmed, refilled, windowed, moment, one_tick, ticks, AlarmSet, BucketFull, WindowSet, AtStart, AtLargest, AtWindow}
 
 -- ---- the settings at the moment
 
@@ -39,7 +39,7 @@ preferred =
     record {
       unmasked = refl;
       inputs = λ i low high ne u. rw (second i low ne u) (inl (omega arith), refl);
-      freeRun = λ enabled. absurd (false≢true enabled);
+      free_run = λ enabled. absurd (false≢true enabled);
     }
 
 -- ---- the ticks from the moment on, from any state
@@ -47,81 +47,81 @@ preferred =
 fair : (k : ℕ) (s : State) → AllFair 1 s (ticks k)
 unfolding computing
 fair zero s = tt
-fair (suc k) s = (λ accepted. (refl, λ e. refl), fair k (next s oneTick))
+fair (suc k) s = (λ accepted. (refl, λ e. refl), fair k (next s one_tick))
 
-counted : (k : ℕ) (s : State) → acceptedTicks s (ticks k) ≡ k
+counted : (k : ℕ) (s : State) → accepted_ticks s (ticks k) ≡ k
 unfolding computing
 counted zero s = refl
-counted (suc k) s = omega (arith, counted k (next s oneTick))
+counted (suc k) s = omega (arith, counted k (next s one_tick))
 
 -- the promise, with nothing after the ticks
 kept : (lead : List Event) (k : ℕ) → Provisos 1 (moment lead) (ticks k)
-    → Served (selectedTicks 1 (moment lead)) (readyTicks 1 (moment lead)) 1 (moment lead) (ticks k) (run fresh (lead ++ ticks k))
+    → Served (selected_ticks 1 (moment lead)) (ready_ticks 1 (moment lead)) 1 (moment lead) (ticks k) (run fresh (lead ++ ticks k))
 kept lead k met =
-    subst (λ es. Served (selectedTicks 1 (moment lead)) (readyTicks 1 (moment lead)) 1 (moment lead) (ticks k) (run fresh (lead ++ es))) (append-nil (ticks k))
-    (promise fresh standard.is-fresh lead (ticks k) [] 1 (rw (append-nil (ticks k)) met))
+    subst (λ es. Served (selected_ticks 1 (moment lead)) (ready_ticks 1 (moment lead)) 1 (moment lead) (ticks k) (run fresh (lead ++ es))) (append-nil (ticks k))
+    (promise fresh standard.is_fresh lead (ticks k) [] 1 (rw (append-nil (ticks k)) met))
 
 -- ---- the statements
 
-pub alarmSet : AlarmSet
+pub alarm_set : AlarmSet
 unfolding computing settings alarmed
-alarmSet = refl
+alarm_set = refl
 
-pub bucketFull : BucketFull
+pub bucket_full : BucketFull
 unfolding computing settings refilled
-bucketFull = refl
+bucket_full = refl
 
-pub windowSet : WindowSet
+pub window_set : WindowSet
 unfolding computing settings alarmed windowed
-windowSet = refl
+window_set = refl
 
-met-alarmed : (k : ℕ) → Provisos 1 (moment alarmed) (ticks k)
+met_alarmed : (k : ℕ) → Provisos 1 (moment alarmed) (ticks k)
 unfolding computing settings alarmed
-met-alarmed k = record { low = omega arith; high = omega arith; automatic = refl; clear = refl; preferred = preferred; fair = fair k (moment alarmed) }
+met_alarmed k = record { low = omega arith; high = omega arith; automatic = refl; clear = refl; preferred = preferred; fair = fair k (moment alarmed) }
 
-met-refilled : (k : ℕ) → Provisos 1 (moment refilled) (ticks k)
+met_refilled : (k : ℕ) → Provisos 1 (moment refilled) (ticks k)
 unfolding computing settings refilled
-met-refilled k = record { low = omega arith; high = omega arith; automatic = refl; clear = refl; preferred = preferred; fair = fair k (moment refilled) }
+met_refilled k = record { low = omega arith; high = omega arith; automatic = refl; clear = refl; preferred = preferred; fair = fair k (moment refilled) }
 
-met-windowed : (k : ℕ) → Provisos 1 (moment windowed) (ticks k)
+met_windowed : (k : ℕ) → Provisos 1 (moment windowed) (ticks k)
 unfolding computing settings alarmed windowed
-met-windowed k = record { low = omega arith; high = omega arith; automatic = refl; clear = refl; preferred = preferred; fair = fair k (moment windowed) }
+met_windowed k = record { low = omega arith; high = omega arith; automatic = refl; clear = refl; preferred = preferred; fair = fair k (moment windowed) }
 
 pub at_start : AtStart
 unfolding computing settings alarmed
 at_start =
     record {
-      met = met-alarmed;
+      met = met_alarmed;
       counted = λ k. counted k (moment alarmed);
-      kept = λ k. kept alarmed k (met-alarmed k);
-      first-number = refl;
-      second-number = refl;
-      notBettered = refl;
-      notReadyBefore = refl;
+      kept = λ k. kept alarmed k (met_alarmed k);
+      first_number = refl;
+      second_number = refl;
+      not_bettered = refl;
+      not_ready_before = refl;
     }
 
-pub atLargest : AtLargest
+pub at_largest : AtLargest
 unfolding computing settings refilled
-atLargest =
+at_largest =
     record {
-      met = met-refilled;
+      met = met_refilled;
       counted = λ k. counted k (moment refilled);
-      kept = λ k. kept refilled k (met-refilled k);
-      first-number = refl;
-      second-number = refl;
-      notBettered = refl;
-      notReadyBefore = refl;
+      kept = λ k. kept refilled k (met_refilled k);
+      first_number = refl;
+      second_number = refl;
+      not_bettered = refl;
+      not_ready_before = refl;
     }
 
-pub atWindow : AtWindow
+pub at_window : AtWindow
 unfolding computing settings alarmed windowed
-atWindow =
+at_window =
     record {
-      met = met-windowed;
+      met = met_windowed;
       counted = λ k. counted k (moment windowed);
-      kept = λ k. kept windowed k (met-windowed k);
-      first-number = refl;
-      second-number = refl;
-      notBettered = refl;
-      notReadyBefore = refl;
+      kept = λ k. kept windowed k (met_windowed k);
+      first_number = refl;
+      second_number = refl;
+      not_bettered = refl;
+      not_ready_before = refl;
     }

@@ -6,38 +6,38 @@ use native.Mathlib.Omega.{arith}
 use native.Mathlib.Nat.{mod-lt}
 use lib.Dec.{eqb}
 use lib.ListN.{get_or, set}
-use Rattle.rules.specs.Words.{if◌then◌else◌, isInput}
-use Rattle.rules.specs.Buckets.{bucketFrom, startBucket, withSet, withAssigned}
+use Rattle.rules.specs.Words.{if◌then◌else◌, is_input}
+use Rattle.rules.specs.Buckets.{bucket_from, start_bucket, with_set, with_assigned}
 use Rattle.rules.proofs.Tests.{high}
-use Rattle.arith.proofs.Laws.{if-map}
-use Rattle.buckets.specs.Bridge.{four, eight, byte_of, ticksOf, bucketIn, wordFrom, withWord, with_number, bucketsOf}
+use Rattle.arith.proofs.Laws.{if_map}
+use Rattle.buckets.specs.Bridge.{four, eight, byte_of, ticks_of, bucket_in, word_from, with_word, with_number, buckets_of}
 use Rattle.buckets.specs.declared.Buckets.{Buckets}
 
-set-four : {A : Type 0} (f : ℕ → A) (n : ℕ) (v : A) → n ≤ 3 → four (λ k. if eqb n k then v else f k) ≡ set (four f) n v
-set-four f zero v h = refl
-set-four f (suc zero) v h = refl
-set-four f (suc (suc zero)) v h = refl
-set-four f (suc (suc (suc zero))) v h = refl
-set-four f (suc (suc (suc (suc n)))) v h = absurd (omega arith)
+set_four : {A : Type 0} (f : ℕ → A) (n : ℕ) (v : A) → n ≤ 3 → four (λ k. if eqb n k then v else f k) ≡ set (four f) n v
+set_four f zero v h = refl
+set_four f (suc zero) v h = refl
+set_four f (suc (suc zero)) v h = refl
+set_four f (suc (suc (suc zero))) v h = refl
+set_four f (suc (suc (suc (suc n)))) v h = absurd (omega arith)
 
-set-eight : {A : Type 0} (f : ℕ → A) (i : ℕ) (v : A) → isInput i ≡ true → eight (λ k. if eqb i (k + 1) then v else f k) ≡ set (eight f) (i - 1) v
-set-eight f zero v h = absurd (false≢true h)
-set-eight f (suc zero) v h = refl
-set-eight f (suc (suc zero)) v h = refl
-set-eight f (suc (suc (suc zero))) v h = refl
-set-eight f (suc (suc (suc (suc zero)))) v h = refl
-set-eight f (suc (suc (suc (suc (suc zero))))) v h = refl
-set-eight f (suc (suc (suc (suc (suc (suc zero)))))) v h = refl
-set-eight f (suc (suc (suc (suc (suc (suc (suc zero))))))) v h = refl
-set-eight f (suc (suc (suc (suc (suc (suc (suc (suc zero)))))))) v h = refl
-set-eight f (suc (suc (suc (suc (suc (suc (suc (suc (suc i))))))))) v h =
+set_eight : {A : Type 0} (f : ℕ → A) (i : ℕ) (v : A) → is_input i ≡ true → eight (λ k. if eqb i (k + 1) then v else f k) ≡ set (eight f) (i - 1) v
+set_eight f zero v h = absurd (false≢true h)
+set_eight f (suc zero) v h = refl
+set_eight f (suc (suc zero)) v h = refl
+set_eight f (suc (suc (suc zero))) v h = refl
+set_eight f (suc (suc (suc (suc zero)))) v h = refl
+set_eight f (suc (suc (suc (suc (suc zero))))) v h = refl
+set_eight f (suc (suc (suc (suc (suc (suc zero)))))) v h = refl
+set_eight f (suc (suc (suc (suc (suc (suc (suc zero))))))) v h = refl
+set_eight f (suc (suc (suc (suc (suc (suc (suc (suc zero)))))))) v h = refl
+set_eight f (suc (suc (suc (suc (suc (suc (suc (suc (suc i))))))))) v h =
     let most : suc (suc (suc (suc (suc (suc (suc (suc (suc i)))))))) ≤ 8 = high 1 8 _ h in
     absurd (omega arith)
 
 -- a set number 0 to 3 has no higher bits
-set-number : (t : Bool) (n x : ℕ) → n ≤ 3 → (if t then n else x) % 4 ≡ (if t then n else x % 4)
-set-number true n x h = omega arith
-set-number false n x h = refl
+set_number : (t : Bool) (n x : ℕ) → n ≤ 3 → (if t then n else x) % 4 ≡ (if t then n else x % 4)
+set_number true n x h = omega arith
+set_number false n x h = refl
 
 -- ---- a set anew
 
@@ -65,24 +65,24 @@ last_fits (suc (suc zero)) h = omega arith
 last_fits (suc (suc (suc zero))) h = omega arith
 last_fits (suc (suc (suc (suc d)))) h = absurd (omega arith)
 
-ticks-of-last : (d : ℕ) → d ≤ 3 → ticksOf (2 ^ min d 3 - 1) ≡ 2 ^ d
-ticks-of-last zero h = refl
-ticks-of-last (suc zero) h = refl
-ticks-of-last (suc (suc zero)) h = refl
-ticks-of-last (suc (suc (suc zero))) h = refl
-ticks-of-last (suc (suc (suc (suc d)))) h = absurd (omega arith)
+ticks_of_last : (d : ℕ) → d ≤ 3 → ticks_of (2 ^ min d 3 - 1) ≡ 2 ^ d
+ticks_of_last zero h = refl
+ticks_of_last (suc zero) h = refl
+ticks_of_last (suc (suc zero)) h = refl
+ticks_of_last (suc (suc (suc zero))) h = refl
+ticks_of_last (suc (suc (suc (suc d)))) h = absurd (omega arith)
 
 -- Each byte of the word is the number that was put there.
-bucket-in-word : (size high low d : ℕ) → size < 256 → high < 256 → low < 256 → d ≤ 3 → bucketIn (wordFrom size high low d) ≡ bucketFrom size high low d
-unfolding wordFrom bucketFrom
-bucket-in-word size high low d s-fits u-fits l-fits few =
+bucket_in_word : (size high low d : ℕ) → size < 256 → high < 256 → low < 256 → d ≤ 3 → bucket_in (word_from size high low d) ≡ bucket_from size high low d
+unfolding word_from bucket_from
+bucket_in_word size high low d s-fits u-fits l-fits few =
     let t = 2 ^ min d 3 - 1 in
     let t-fits = last_fits d few in
     λ i. record {
       size = first size high low t s-fits u-fits l-fits t-fits i;
-      setLevel = second size high low t s-fits u-fits l-fits t-fits i;
-      clearLevel = third size high low t s-fits u-fits l-fits t-fits i;
-      decayTicks = (ap ticksOf (fourth size high low t s-fits u-fits l-fits t-fits) ∙ ticks-of-last d few) i;
+      set_level = second size high low t s-fits u-fits l-fits t-fits i;
+      clear_level = third size high low t s-fits u-fits l-fits t-fits i;
+      decay_ticks = (ap ticks_of (fourth size high low t s-fits u-fits l-fits t-fits) ∙ ticks_of_last d few) i;
     }
 
 pub set-anew :
@@ -92,34 +92,34 @@ pub set-anew :
     high < 256 →
     low < 256 →
     d ≤ 3 →
-    bucketsOf (withWord n (wordFrom size high low d) b) ≡ withSet n (bucketFrom size high low d) (bucketsOf b)
-unfolding withSet bucketsOf
+    buckets_of (with_word n (word_from size high low d) b) ≡ with_set n (bucket_from size high low d) (buckets_of b)
+unfolding with_set buckets_of
 set-anew b n size high low d known s-fits u-fits l-fits few =
-    let word = wordFrom size high low d in
-    let assigned = (bucketsOf b).assigned in
-    (λ i. record { sets = four (λ k. if-map bucketIn (eqb n k) word (get_or b.sets k 0) i); assigned = assigned })
-    ∙ (λ i. record { sets = four (λ k. if eqb n k then bucket-in-word size high low d s-fits u-fits l-fits few i else bucketIn (get_or b.sets k 0)); assigned = assigned })
-    ∙ (λ i. record { sets = set-four (λ k. bucketIn (get_or b.sets k 0)) n (bucketFrom size high low d) known i; assigned = assigned })
+    let word = word_from size high low d in
+    let assigned = (buckets_of b).assigned in
+    (λ i. record { sets = four (λ k. if_map bucket_in (eqb n k) word (get_or b.sets k 0) i); assigned = assigned })
+    ∙ (λ i. record { sets = four (λ k. if eqb n k then bucket_in_word size high low d s-fits u-fits l-fits few i else bucket_in (get_or b.sets k 0)); assigned = assigned })
+    ∙ (λ i. record { sets = set_four (λ k. bucket_in (get_or b.sets k 0)) n (bucket_from size high low d) known i; assigned = assigned })
 
 -- ---- a set number anew
 
-pub assigned-anew : (b : Buckets) (i n : ℕ) → isInput i ≡ true → n ≤ 3 → bucketsOf (with_number i n b) ≡ withAssigned i n (bucketsOf b)
-unfolding withAssigned bucketsOf
-assigned-anew b i n input few =
-    let sets = (bucketsOf b).sets in
-    (λ j. record { sets = sets; assigned = eight (λ k. set-number (eqb i (k + 1)) n (get_or b.assigned k 0) few j) })
-    ∙ (λ j. record { sets = sets; assigned = set-eight (λ k. get_or b.assigned k 0 % 4) i n input j })
+pub assigned_anew : (b : Buckets) (i n : ℕ) → is_input i ≡ true → n ≤ 3 → buckets_of (with_number i n b) ≡ with_assigned i n (buckets_of b)
+unfolding with_assigned buckets_of
+assigned_anew b i n input few =
+    let sets = (buckets_of b).sets in
+    (λ j. record { sets = sets; assigned = eight (λ k. set_number (eqb i (k + 1)) n (get_or b.assigned k 0) few j) })
+    ∙ (λ j. record { sets = sets; assigned = set_eight (λ k. get_or b.assigned k 0 % 4) i n input j })
 
 -- ---- the bucket of an input
 
-pub four-at : {A : Type 0} (f : ℕ → A) (d : A) (n : ℕ) → n < 4 → get_or (four f) n d ≡ f n
-four-at f d zero h = refl
-four-at f d (suc zero) h = refl
-four-at f d (suc (suc zero)) h = refl
-four-at f d (suc (suc (suc zero))) h = refl
-four-at f d (suc (suc (suc (suc n)))) h = absurd (omega arith)
+pub four_at : {A : Type 0} (f : ℕ → A) (d : A) (n : ℕ) → n < 4 → get_or (four f) n d ≡ f n
+four_at f d zero h = refl
+four_at f d (suc zero) h = refl
+four_at f d (suc (suc zero)) h = refl
+four_at f d (suc (suc (suc zero))) h = refl
+four_at f d (suc (suc (suc (suc n)))) h = absurd (omega arith)
 
 -- from the word at its set's place, and from the rules' sets
-pub set-at : (b : Buckets) (n : ℕ) → bucketIn (get_or b.sets (n % 4) 0) ≡ get_or (bucketsOf b).sets (n % 4) startBucket
-unfolding bucketsOf
-set-at b n = sym (four-at (λ k. bucketIn (get_or b.sets k 0)) startBucket (n % 4) (mod-lt n (omega arith)))
+pub set_at : (b : Buckets) (n : ℕ) → bucket_in (get_or b.sets (n % 4) 0) ≡ get_or (buckets_of b).sets (n % 4) start_bucket
+unfolding buckets_of
+set_at b n = sym (four_at (λ k. bucket_in (get_or b.sets k 0)) start_bucket (n % 4) (mod-lt n (omega arith)))

@@ -20,25 +20,25 @@ abbrev pub byte_of : ℕ → ℕ → ℕ
 byte_of w unit = w / unit % 256
 
 -- the ticks of a decay whose last count is stored so: the lowest byte counts
-abbrev pub ticksOf : ℕ → ℕ
-ticksOf last = last % 256 + 1
+abbrev pub ticks_of : ℕ → ℕ
+ticks_of last = last % 256 + 1
 
-abbrev pub bucketIn : ℕ → Bucket
-bucketIn w = record { size = byte_of w 1; setLevel = byte_of w 256; clearLevel = byte_of w 65_536; decayTicks = ticksOf (byte_of w 16_777_216) }
+abbrev pub bucket_in : ℕ → Bucket
+bucket_in w = record { size = byte_of w 1; set_level = byte_of w 256; clear_level = byte_of w 65_536; decay_ticks = ticks_of (byte_of w 16_777_216) }
 
 -- the rules' sets that the words hold; of a stored set number the two lowest bits count
-unfoldable pub bucketsOf : Buckets → rules.Buckets
-bucketsOf b = record { sets = four (λ k. bucketIn (get_or b.sets k 0)); assigned = eight (λ k. get_or b.assigned k 0 % 4) }
+unfoldable pub buckets_of : Buckets → rules.Buckets
+buckets_of b = record { sets = four (λ k. bucket_in (get_or b.sets k 0)); assigned = eight (λ k. get_or b.assigned k 0 % 4) }
 
 -- ---- after a call
 
 -- the word of a set: its size, set level, clear level, and the last count of a decay of 2^d ticks, d being 3 at most
-unfoldable pub wordFrom : ℕ → ℕ → ℕ → ℕ → ℕ
-wordFrom size setLevel clearLevel d = size + 256 * setLevel + 65_536 * clearLevel + 16_777_216 * (2 ^ min d 3 - 1)
+unfoldable pub word_from : ℕ → ℕ → ℕ → ℕ → ℕ
+word_from size set_level clear_level d = size + 256 * set_level + 65_536 * clear_level + 16_777_216 * (2 ^ min d 3 - 1)
 
 -- with another word for set n
-abbrev pub withWord : ℕ → ℕ → Buckets → Buckets
-withWord n w b = record { sets = four (λ k. if eqb n k then w else get_or b.sets k 0); assigned = b.assigned }
+abbrev pub with_word : ℕ → ℕ → Buckets → Buckets
+with_word n w b = record { sets = four (λ k. if eqb n k then w else get_or b.sets k 0); assigned = b.assigned }
 
 -- with another set number for input i
 abbrev pub with_number : ℕ → ℕ → Buckets → Buckets
@@ -55,13 +55,13 @@ abbrev pub numbers : List ℕ → List ℕ → List ℕ → List ℕ → Numbers
 numbers sizes highs lows lasts = record { sizes = sizes; highs = highs; lows = lows; lasts = lasts }
 
 -- the bucket in a lane of such rows
-abbrev pub bucketAt : List ℕ → List ℕ → List ℕ → List ℕ → ℕ → Bucket
-bucketAt sizes highs lows lasts k =
-    record { size = get_or sizes k 0; setLevel = get_or highs k 0; clearLevel = get_or lows k 0; decayTicks = ticksOf (get_or lasts k 0) }
+abbrev pub bucket_at : List ℕ → List ℕ → List ℕ → List ℕ → ℕ → Bucket
+bucket_at sizes highs lows lasts k =
+    record { size = get_or sizes k 0; set_level = get_or highs k 0; clear_level = get_or lows k 0; decay_ticks = ticks_of (get_or lasts k 0) }
 
 -- for each input those of its set
-unfoldable pub numbersOf : Buckets → Numbers
-numbersOf b = numbers (row 1) (row 256) (row 65_536) (row 16_777_216)
+unfoldable pub numbers_of : Buckets → Numbers
+numbers_of b = numbers (row 1) (row 256) (row 65_536) (row 16_777_216)
   where
     row : ℕ → List ℕ
     row unit = eight (λ k. byte_of (word_of b.sets b.assigned k) unit)

@@ -4,9 +4,9 @@
 ghost use Rattle.std.specs.Prelude.{◌≡◌, [], ◌∷◌, ◌+◌, ◌-◌, ◌/◌, ◌%◌, ◌^◌, ◌≤◌, min, eqb, get_or};
 ghost use Rattle.rules.specs.Words.{if◌then◌else◌};
 ghost use Rattle.rules.specs.Buckets as rules;
-ghost use Rattle.rules.specs.Buckets.{freshBuckets};
-ghost use Rattle.rules.specs.Refusals.{setRefusal, assignRefusal};
-ghost use Rattle.buckets.specs.Bridge.{four, eight, byte_of, bucketIn, word_of, wordFrom, withWord, with_number, bucketsOf, numbersOf};
+ghost use Rattle.rules.specs.Buckets.{fresh_buckets};
+ghost use Rattle.rules.specs.Refusals.{set_refusal, assign_refusal};
+ghost use Rattle.buckets.specs.Bridge.{four, eight, byte_of, bucket_in, word_of, word_from, with_word, with_number, buckets_of, numbers_of};
 
 use arith::{both, either, is_input, wide16, wide32};
 
@@ -26,7 +26,7 @@ pub struct Buckets {
 // "Each input has one of four sets, at first set 0 .. All sets start as 8, 6, 4, 1."
 // Not: a decay of 1 tick; set 1 for input 8.
 pub fn fresh_buckets() -> Buckets
-    ensures { bucketsOf result ≡ freshBuckets }
+    ensures { buckets_of result ≡ fresh_buckets }
 {
     Buckets {
         sets: [0x01040608; 4],
@@ -117,7 +117,7 @@ pub struct Numbers {
 // The numbers that a tick takes: they follow from sets and assignments, and change by a call alone.
 // Not: set and clear levels in each other's row; the ticks of a decay for its last count.
 pub fn numbers_of(b: Buckets) -> Numbers
-    ensures { result ≡ numbersOf b }
+    ensures { result ≡ numbers_of b }
 {
     let sets = b.sets;
     let assigned = b.assigned;
@@ -138,7 +138,7 @@ pub fn numbers_of(b: Buckets) -> Numbers
 // The size of set n, by the two lowest bits of n.
 // Not: set 0's size for every set; the set level.
 pub fn size_of(b: Buckets, n: u8) -> u16
-    ensures { result ≡ (bucketIn (get_or b.sets (n % 4) 0)).size }
+    ensures { result ≡ (bucket_in (get_or b.sets (n % 4) 0)).size }
 {
     let sets = b.sets;
     (sets[(n % 4) as usize] % 256) as u16
@@ -166,15 +166,15 @@ pub fn having(assigned: Row, n: u8) -> Row
 
 // "L < U ≤ S ≤ 255 and d from 0 to 3"; no byte is over 255.
 fn in_bounds(size: u8, high: u8, low: u8, d: u8) -> bool
-    ensures { result ≡ rules.inBounds size high low d }
+    ensures { result ≡ rules.in_bounds size high low d }
 {
     both(both(low < high, high <= size), d <= 3)
 }
 
-// The rule `setRefusal`: 14 for a set or numbers that are out of bounds, else 0.
+// The rule `set_refusal`: 14 for a set or numbers that are out of bounds, else 0.
 // Not: L = U passes; d = 4 passes; set 4 passes.
 pub fn set_refusal(n: u8, size: u8, high: u8, low: u8, d: u8) -> u8
-    ensures { result ≡ setRefusal n size high low d }
+    ensures { result ≡ set_refusal n size high low d }
 {
     let ok = both(n <= 3, in_bounds(size, high, low, d));
     if ok {
@@ -183,10 +183,10 @@ pub fn set_refusal(n: u8, size: u8, high: u8, low: u8, d: u8) -> u8
     14
 }
 
-// The rule `assignRefusal`: 6 for no input, 14 for no set, else 0.
+// The rule `assign_refusal`: 6 for no input, 14 for no set, else 0.
 // Not: set 4 passes; 14 where 6 fits too.
 pub fn assign_refusal(i: u8, n: u8) -> u8
-    ensures { result ≡ assignRefusal i n }
+    ensures { result ≡ assign_refusal i n }
 {
     let known = is_input(wide32(i));
     if known {
@@ -218,7 +218,7 @@ fn last_of(d: u8) -> u32
 
 // The word of a set.
 fn word_of(size: u8, high: u8, low: u8, d: u8) -> u32
-    ensures { result ≡ wordFrom size high low d }
+    ensures { result ≡ word_from size high low d }
 {
     let last = last_of(d);
     size as u32 + 256 * high as u32 + 65_536 * low as u32 + 16_777_216 * last
@@ -243,10 +243,10 @@ fn put(sets: [u32; 4], n: u8, w: u32) -> [u32; 4]
     ]
 }
 
-// The words with that of set n anew: the rule `withSet`, of a set and numbers within the bounds (`set-anew` in proofs/Sets).
+// The words with that of set n anew: the rule `with_set`, of a set and numbers within the bounds (`set-anew` in proofs/Sets).
 // Not: the set beside it anew; a decay of d ticks.
 pub fn with_set(b: Buckets, n: u8, size: u8, high: u8, low: u8, d: u8) -> Buckets
-    ensures { result ≡ withWord n (wordFrom size high low d) b }
+    ensures { result ≡ with_word n (word_from size high low d) b }
 {
     let old = b.sets;
     let assigned = b.assigned;
@@ -274,7 +274,7 @@ pub fn at_input(row: Row, i: u8, v: u16) -> Row
     ]
 }
 
-// The set numbers with input i's anew: the rule `withAssigned`, of an input 1 to 8 and a set 0 to 3 (`assigned-anew` in proofs/Sets).
+// The set numbers with input i's anew: the rule `with_assigned`, of an input 1 to 8 and a set 0 to 3 (`assigned_anew` in proofs/Sets).
 // Not: the number of the input beside it; the other inputs at set 0.
 pub fn with_assigned(b: Buckets, i: u8, n: u8) -> Buckets
     ensures { result ≡ with_number i n b }

@@ -4,11 +4,11 @@ use mathlib.Core.Path.{◌≡◌, refl}
 use mathlib.Core.Bool.{Bool, true, false}
 use lib.ListN.{get_or}
 use Rattle.rules.specs.Words.{if◌then◌else◌}
-use Rattle.rules.specs.Monitors.{atSize}
-use Rattle.rules.specs.Inputs.{eachFrom}
-use Rattle.rules.specs.Buckets.{putAtSize}
+use Rattle.rules.specs.Monitors.{at_size}
+use Rattle.rules.specs.Inputs.{each_from}
+use Rattle.rules.specs.Buckets.{put_at_size}
 use Rattle.buckets.specs.Bridge.{eight}
-use Rattle.inputs.specs.Bridge.{is_set, input_at, inputsOf}
+use Rattle.inputs.specs.Bridge.{is_set, input_at, inputs_of}
 use Rattle.inputs.specs.declared.Monitors.{Monitors}
 
 -- a test as a number, 1 or 0
@@ -18,6 +18,6 @@ set_if false = refl
 
 pub concerned :
     (m : Monitors) (size : ℕ) (test : ℕ → Bool)
-    → putAtSize (λ i. is_set (get_or (eight (λ k. if test k then 1 else 0)) (i - 1) 0)) size (inputsOf m) ≡ putAtSize (λ i. test (i - 1)) size (inputsOf m)
-unfolding putAtSize eachFrom inputsOf
-concerned m size test = λ j. eight (λ k. let x = input_at m k in if set_if (test k) j then atSize size x else x)
+    → put_at_size (λ i. is_set (get_or (eight (λ k. if test k then 1 else 0)) (i - 1) 0)) size (inputs_of m) ≡ put_at_size (λ i. test (i - 1)) size (inputs_of m)
+unfolding put_at_size each_from inputs_of
+concerned m size test = λ j. eight (λ k. let x = input_at m k in if set_if (test k) j then at_size size x else x)

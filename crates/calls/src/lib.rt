@@ -2,11 +2,11 @@
 // events of a run sheet (document 02, #104: setting and assigning a set of bucket numbers; #107: setting the place in the week, and the windows). A refusal
 // leaves every stored number as it was.
 // Each contract is an equation with the rule `outcome` through crates/state/specs/Stored.antt.
-ghost use Rattle.rules.specs.Events.{setBucket, assignBucket, setWeek, setWindows};
+ghost use Rattle.rules.specs.Events.{set_bucket, assign_bucket, set_week, set_windows};
 ghost use Rattle.rules.specs.Sheet.{fields};
-ghost use Rattle.rules.specs.Week.{firstWindows};
+ghost use Rattle.rules.specs.Week.{first_windows};
 ghost use Rattle.state.specs.Lent.{wholly};
-ghost use Rattle.state.specs.Stored.{Stored, withCore, withWindows};
+ghost use Rattle.state.specs.Stored.{Stored, with_core, with_windows};
 ghost use Rattle.unit.specs.Given.{Leads, Gives, given};
 ghost use Rattle.calls.specs.Lent.{entering, leaving};
 
@@ -70,7 +70,7 @@ pub fn set_bucket(
     low: u8,
     d: u8,
 ) -> u8
-    ensures { (s : Stored) → Gives (entering level decay activity sets assigned s) (setBucket n size high low d) result (leaving level decay activity sets assigned s) }
+    ensures { (s : Stored) → Gives (entering level decay activity sets assigned s) (set_bucket n size high low d) result (leaving level decay activity sets assigned s) }
 {
     let number = buckets::set_refusal(n, size, high, low, d);
     if number == 0 {
@@ -107,7 +107,7 @@ pub fn assign_bucket(
     i: u8,
     n: u8,
 ) -> u8
-    ensures { (s : Stored) → Gives (entering level decay activity sets assigned s) (assignBucket i n) result (leaving level decay activity sets assigned s) }
+    ensures { (s : Stored) → Gives (entering level decay activity sets assigned s) (assign_bucket i n) result (leaving level decay activity sets assigned s) }
 {
     let number = buckets::assign_refusal(i, n);
     if number == 0 {
@@ -132,7 +132,7 @@ pub fn assign_bucket(
 // The place in the week is set, or refusal 16.
 // Not: 4,725,000 let through; the wait put at 0.
 pub fn set_week(k: Core, place: u32) -> Stepped
-    ensures { (s : Stored) → Gives (withCore k s) (setWeek place) result.refusal (withCore result.core s) }
+    ensures { (s : Stored) → Gives (with_core k s) (set_week place) result.refusal (with_core result.core s) }
 {
     let number = week::week_refusal(place);
     if number == 0 {
@@ -152,7 +152,7 @@ pub fn set_week(k: Core, place: u32) -> Stepped
 // The first `count` windows are set, or refusal 16.
 // Not: every count taken as 0; the numbers stored on a refusal.
 pub fn set_windows(stored: &mut Windows, count: u8, windows: &Windows) -> u8
-    ensures { (s : Stored) → Gives (withWindows stored.old s) (setWindows (firstWindows count windows.now)) result (withWindows stored.new s) }
+    ensures { (s : Stored) → Gives (with_windows stored.old s) (set_windows (first_windows count windows.now)) result (with_windows stored.new s) }
 {
     let number = week::windows_refusal(count, windows);
     if number == 0 {

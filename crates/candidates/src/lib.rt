@@ -1,17 +1,17 @@
 // The candidates of the selection (document 01, step 4): the best of them, and which references are available.
-// The registers and the inputs' soaks are lent for reading, and the contracts hold whatever else the inputs are. The settings are `settingsFrom` of the
+// The registers and the inputs' soaks are lent for reading, and the contracts hold whatever else the inputs are. The settings are `settings_from` of the
 // registers. What follows from them alone, the keys, is made after a write and handed to the ticks.
 ghost use Rattle.std.specs.Prelude.{◌≡◌, ◌+◌, ◌*◌, ◌%◌, min, ◌&&◌, eqb, get_or};
-ghost use Rattle.rules.specs.Words.{if◌then◌else◌, bit_of, isInput};
-ghost use Rattle.rules.specs.Monitors.{fullSoak};
+ghost use Rattle.rules.specs.Words.{if◌then◌else◌, bit_of, is_input};
+ghost use Rattle.rules.specs.Monitors.{full_soak};
 ghost use Rattle.rules.specs.Settings.{Settings};
 ghost use Rattle.rules.specs.Selection.{available, candidate, best};
-ghost use Rattle.rules.specs.Registers.{settingsFrom};
-ghost use Rattle.rules.specs.Reading.{maskUpTo, countUpTo};
+ghost use Rattle.rules.specs.Registers.{settings_from};
+ghost use Rattle.rules.specs.Reading.{mask_up_to, count_up_to};
 ghost use Rattle.buckets.specs.Bridge.{eight};
-ghost use Rattle.inputs.specs.Bridge.{inputsOf, withSoak};
+ghost use Rattle.inputs.specs.Bridge.{inputs_of, with_soak};
 ghost use Rattle.inputs.specs.declared.Monitors as stored;
-ghost use Rattle.candidates.specs.Keys.{noKey, keysFrom};
+ghost use Rattle.candidates.specs.Keys.{no_key, keys_from};
 
 use arith::{both, either, least, mask_of, wide16, wide32};
 use buckets::Row;
@@ -28,7 +28,7 @@ const NO_KEY: u16 = 128;
 
 // The key of a candidate, by whether it is usable, its register and its number.
 fn key_of(usable: bool, register: u8, number: u8) -> u16
-    ensures { result ≡ (if usable then register % 8 * 16 + number else noKey) }
+    ensures { result ≡ (if usable then register % 8 * 16 + number else no_key) }
 {
     let key = wide16(register % 8) * 16 + wide16(number);
     either(usable, key, NO_KEY)
@@ -37,7 +37,7 @@ fn key_of(usable: bool, register: u8, number: u8) -> u16
 // The keys of the inputs 1 to 8 and of Free Run, by the registers alone: input i has its own in slot i - 1.
 // Not: a masked input has a key; four bits of the priority.
 pub fn keys_of(regs: &Registers) -> Keys
-    ensures { result ≡ keysFrom (settingsFrom regs.now) }
+    ensures { result ≡ keys_from (settings_from regs.now) }
 {
     let u = regs[MASK_SLOT];
     [
@@ -57,14 +57,14 @@ pub fn keys_of(regs: &Registers) -> Keys
 
 // An input's key, if it is qualified.
 fn held(soak: u16, key: u16) -> u16
-    ensures { result ≡ (if eqb soak fullSoak then key else noKey) }
+    ensures { result ≡ (if eqb soak full_soak then key else no_key) }
 {
     either(soak == FULL_SOAK, key, NO_KEY)
 }
 
 // The keys of the qualified inputs.
 fn held_row(s: Row, k: &Keys) -> Row
-    ensures { result ≡ eight (λ j. if eqb (get_or s j 0) fullSoak then get_or k.now j 0 else noKey) }
+    ensures { result ≡ eight (λ j. if eqb (get_or s j 0) full_soak then get_or k.now j 0 else no_key) }
 {
     [
         held(s[0], k[0]),
@@ -99,7 +99,7 @@ fn number_in(key: u16) -> u32
 // The rule `best`: the candidate that is ahead of every other, or 0.
 // Not: an input at a soak of 78 counts; input 8 left out.
 pub fn best_of(soak: &Row, keys: &Keys) -> u32
-    ensures { (set : Settings) (m : stored.Monitors) → keys.now ≡ keysFrom set → result ≡ best set (inputsOf (withSoak m soak.now)) }
+    ensures { (set : Settings) (m : stored.Monitors) → keys.now ≡ keys_from set → result ≡ best set (inputs_of (with_soak m soak.now)) }
 {
     let s = *soak;
     number_in(least_of_nine(held_row(s, keys), keys[8]))
@@ -109,7 +109,7 @@ pub fn best_of(soak: &Row, keys: &Keys) -> u32
 
 // Input c is unmasked: its bit of the mask 0x42.
 fn is_unmasked(usable: u8, c: u32) -> bool
-    ensures { result ≡ (isInput c && bit_of usable c) }
+    ensures { result ≡ (is_input c && bit_of usable c) }
 {
     if c < 1 {
         return false;
@@ -124,7 +124,7 @@ fn is_unmasked(usable: u8, c: u32) -> bool
 // The rule `candidate`: an available reference, or Free Run if enabled.
 // Not: a masked reference is one; Free Run by bit 3.
 pub fn is_candidate(soak: &Row, regs: &Registers, c: u32) -> bool
-    ensures { (m : stored.Monitors) → result ≡ candidate (settingsFrom regs.now) (inputsOf (withSoak m soak.now)) c }
+    ensures { (m : stored.Monitors) → result ≡ candidate (settings_from regs.now) (inputs_of (with_soak m soak.now)) c }
 {
     if c == 9 {
         return setting(regs, 0x24) / 16 % 2 == 1;
@@ -135,7 +135,7 @@ pub fn is_candidate(soak: &Row, regs: &Registers, c: u32) -> bool
 // The mask of the available references, as 0x47 shows it.
 // Not: input 4 by input 5's bit; the mask 0x42 not looked at.
 pub fn available_mask(soak: &Row, regs: &Registers) -> u8
-    ensures { (m : stored.Monitors) → result ≡ maskUpTo (available (settingsFrom regs.now) (inputsOf (withSoak m soak.now))) 8 }
+    ensures { (m : stored.Monitors) → result ≡ mask_up_to (available (settings_from regs.now) (inputs_of (with_soak m soak.now))) 8 }
 {
     let s = *soak;
     let u = regs[MASK_SLOT];
@@ -154,7 +154,7 @@ pub fn available_mask(soak: &Row, regs: &Registers) -> u8
 // How many references are available, as 0x4e shows it: the ones of the available mask.
 // Not: the masked counted too; the unmasked counted whether qualified or not.
 pub fn available_count(soak: &Row, regs: &Registers) -> u8
-    ensures { (m : stored.Monitors) → result ≡ countUpTo (available (settingsFrom regs.now) (inputsOf (withSoak m soak.now))) 8 }
+    ensures { (m : stored.Monitors) → result ≡ count_up_to (available (settings_from regs.now) (inputs_of (with_soak m soak.now))) 8 }
 {
     u8::count_ones(available_mask(soak, regs)) as u8
 }

@@ -3,6 +3,6 @@ use mathlib.Core.Path.{refl}
 use Rattle.rules.proofs.Computing.{computing}
 use Rattle.cases.specs.AutomaticStart.{table, AutomaticStart}
 
-pub automaticStart : AutomaticStart
+pub automatic_start : AutomaticStart
 unfolding computing table
-automaticStart = refl
+automatic_start = refl

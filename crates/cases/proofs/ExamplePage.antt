@@ -3,6 +3,6 @@ use mathlib.Core.Path.{refl}
 use Rattle.rules.proofs.Computing.{computing}
 use Rattle.cases.specs.ExamplePage.{table, ExamplePage}
 
-pub examplePage : ExamplePage
+pub example_page : ExamplePage
 unfolding computing table
-examplePage = refl
+example_page = refl

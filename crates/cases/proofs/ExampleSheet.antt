@@ -3,6 +3,6 @@ use mathlib.Core.Path.{refl}
 use Rattle.rules.proofs.Computing.{computing}
 use Rattle.cases.specs.ExampleSheet.{table, ExampleSheet}
 
-pub exampleSheet : ExampleSheet
+pub example_sheet : ExampleSheet
 unfolding computing table
-exampleSheet = refl
+example_sheet = refl

@@ -3,6 +3,6 @@ use mathlib.Core.Path.{refl}
 use Rattle.rules.proofs.Computing.{computing}
 use Rattle.cases.specs.KeptValue.{table, KeptValue}
 
-pub keptValue : KeptValue
+pub kept_value : KeptValue
 unfolding computing table
-keptValue = refl
+kept_value = refl

@@ -1,10 +1,10 @@
 -- Request #105, as a table: "A buyer wants units that wake in automatic control." Input 1 is measured, and its ticks are clean; nothing is written.
 use Rattle.std.specs.Prelude.{ℕ, true, List, [], ◌∷◌, ◌++◌, pos, replicate}
-use Rattle.rules.specs.Events.{tickWith, measurement}
+use Rattle.rules.specs.Events.{tick_with, measurement}
 use Rattle.rules.specs.State.{State}
 use Rattle.rules.specs.Reading.{read}
 use Rattle.rules.specs.Run.{run}
-use Rattle.rules.specs.Loading.{loads, freshFrom}
+use Rattle.rules.specs.Loading.{loads, fresh_from}
 use Rattle.rules.specs.Table.{Row, ◌is◌, Holds}
 
 -- the buyer's table: input 1 revertive and of priority 1; control 1, the mask of inputs 1 and 2, a delay of 5 minutes, and the limits as they are
@@ -17,7 +17,7 @@ buyers =
 
 -- after so many ticks
 abbrev after : ℕ → State
-after k = run (freshFrom buyers) (measurement 1 (pos 0) ∷ replicate k (tickWith 0 true (pos 0)))
+after k = run (fresh_from buyers) (measurement 1 (pos 0) ∷ replicate k (tick_with 0 true (pos 0)))
 
 unfoldable pub table : List Row
 table =

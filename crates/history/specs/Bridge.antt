@@ -6,27 +6,27 @@ use Rattle.history.specs.declared.Tally.{Tally}
 use Rattle.history.specs.declared.Update.{Update}
 
 -- The first so many of the stored sums; one that is not there counts as 0. A sum past ±16,000,000,000, which no history makes, is read as that bound.
-unfoldable pub firstSums : ℕ → List ℤ → List ℤ
-firstSums zero sums = []
-firstSums (suc n) [] = pos 0 ∷ firstSums n []
-firstSums (suc n) (x ∷ sums) = saturated x ∷ firstSums n sums
+unfoldable pub first_sums : ℕ → List ℤ → List ℤ
+first_sums zero sums = []
+first_sums (suc n) [] = pos 0 ∷ first_sums n []
+first_sums (suc n) (x ∷ sums) = saturated x ∷ first_sums n sums
 
 -- the first `count` of them, at most 64
-abbrev pub keptOf : List ℤ → ℕ → List ℤ
-keptOf sums count = firstSums (min count 64) sums
+abbrev pub kept_of : List ℤ → ℕ → List ℤ
+kept_of sums count = first_sums (min count 64) sums
 
 -- THE BRIDGE: the history that a tally is, with the sums in use, those of the building history and the backup's
-abbrev pub historyOf : Tally → List ℤ → List ℤ → List ℤ → History
-historyOf t sums building backup =
+abbrev pub history_of : Tally → List ℤ → List ℤ → List ℤ → History
+history_of t sums building backup =
     record {
-      kept = keptOf sums t.count;
+      kept = kept_of sums t.count;
       builds = not (eqb t.builds 0);
-      building = keptOf building t.built;
-      openSum = saturated t.open;
-      openCount = t.filled;
+      building = kept_of building t.built;
+      open_sum = saturated t.open;
+      open_count = t.filled;
       last = t.last;
       command = t.command;
-      backup = keptOf backup t.backed;
+      backup = kept_of backup t.backed;
     }
 
 -- the 64 sums with a new one first
@@ -35,13 +35,13 @@ pushed x sums = x ∷ take 63 sums
 
 -- From tally t to tally r is the rule's step, whatever the sums are; they stay.
 abbrev pub Steps : Tally → Tally → (History → History) → Type 0
-Steps t r rule = (sums building backup : List ℤ) → historyOf r sums building backup ≡ rule (historyOf t sums building backup)
+Steps t r rule = (sums building backup : List ℤ) → history_of r sums building backup ≡ rule (history_of t sums building backup)
 
 -- the history after an update: a block that is done joins the history that fills
-abbrev pub afterUpdate : Update → History → History
-afterUpdate u h = if u.done then completed (saturated u.sum) h else h
+abbrev pub after_update : Update → History → History
+after_update u h = if u.done then completed (saturated u.sum) h else h
 
 -- From tally t to update u is the rule's step, whatever the sums are; where no block is done, there is no sum.
 pub record Updates (t : Tally) (u : Update) (rule : History → History) : Type 0 where
-  pub step : (sums building backup : List ℤ) → afterUpdate u (historyOf u.tally sums building backup) ≡ rule (historyOf t sums building backup)
+  pub step : (sums building backup : List ℤ) → after_update u (history_of u.tally sums building backup) ≡ rule (history_of t sums building backup)
   pub none : u.done ≡ false → u.sum ≡ pos 0

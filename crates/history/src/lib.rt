@@ -3,8 +3,8 @@
 // Each contract is an equation with a rule of crates/rules/specs/History.antt through specs/Bridge.antt; the rule is named above the function.
 ghost use Rattle.std.specs.Prelude.{◌≡◌, List, ◌+◌, min, ℤ, ◌+ℤ◌};
 ghost use Rattle.rules.specs.History as rules;
-ghost use Rattle.rules.specs.History.{ready, held, saturated, openEmptied, sampled, startsBuilding, noted, recorded, replaced, freshHistory};
-ghost use Rattle.history.specs.Bridge.{keptOf, historyOf, pushed, Steps, Updates};
+ghost use Rattle.rules.specs.History.{ready, held, saturated, open_emptied, sampled, starts_building, noted, recorded, replaced, fresh_history};
+ghost use Rattle.history.specs.Bridge.{kept_of, history_of, pushed, Steps, Updates};
 
 use arith::is_counted;
 
@@ -65,7 +65,7 @@ pub fn within(z: i64) -> i64
 // `ready`: 43 blocks or more are in use.
 // Not: Ready at 42 blocks.
 pub fn is_ready(t: Tally) -> bool
-    ensures { (sums building backup : List ℤ) → result ≡ ready (historyOf t sums building backup) }
+    ensures { (sums building backup : List ℤ) → result ≡ ready (history_of t sums building backup) }
 {
     43 <= t.count
 }
@@ -73,7 +73,7 @@ pub fn is_ready(t: Tally) -> bool
 // `held`: the backup is not empty.
 // Not: held with no block; never held.
 pub fn holds_backup(t: Tally) -> bool
-    ensures { (sums building backup : List ℤ) → result ≡ held (historyOf t sums building backup).backup }
+    ensures { (sums building backup : List ℤ) → result ≡ held (history_of t sums building backup).backup }
 {
     t.backed != 0
 }
@@ -113,10 +113,10 @@ fn sampled(x: i32, t: Tally) -> Update
     }
 }
 
-// `openEmptied`: the open block empties.
+// `open_emptied`: the open block empties.
 // Not: a sample stays; the sum stays.
 pub fn open_emptied(t: Tally) -> Tally
-    ensures { Steps t result openEmptied }
+    ensures { Steps t result open_emptied }
 {
     let mut rest = t;
     rest.open = 0;
@@ -126,7 +126,7 @@ pub fn open_emptied(t: Tally) -> Tally
 
 // `replaced`: `count` blocks are in use, and the building history and the open block empty.
 fn replaced(count: u8, t: Tally) -> Tally
-    ensures { (old was sums building backup : List ℤ) → historyOf result sums building backup ≡ replaced (keptOf sums count) (historyOf t old was backup) }
+    ensures { (old was sums building backup : List ℤ) → history_of result sums building backup ≡ replaced (kept_of sums count) (history_of t old was backup) }
 {
     let mut next = open_emptied(t);
     next.count = count;
@@ -134,9 +134,9 @@ fn replaced(count: u8, t: Tally) -> Tally
     next
 }
 
-// `startsBuilding`: a building history with no block yet, and an empty open block.
+// `starts_building`: a building history with no block yet, and an empty open block.
 fn starts_building(t: Tally) -> Tally
-    ensures { Steps t result startsBuilding }
+    ensures { Steps t result starts_building }
 {
     let mut next = replaced(t.count, t);
     next.builds = 1;
@@ -210,7 +210,7 @@ fn one_more(n: u8) -> u8
 
 // `completed`: the block joins the history that fills; a building history that then has 43 replaces the blocks in use.
 fn completed(sum: i64, t: Tally, sums: &mut Sums, building: &mut Sums) -> Tally
-    ensures { (backup : List ℤ) → historyOf result sums.new building.new backup ≡ rules.completed (saturated sum) (historyOf t sums.old building.old backup) }
+    ensures { (backup : List ℤ) → history_of result sums.new building.new backup ≡ rules.completed (saturated sum) (history_of t sums.old building.old backup) }
 {
     if t.builds == 0 {
         push(sums, sum);
@@ -240,7 +240,7 @@ pub fn recorded(
     sums: &mut Sums,
     building: &mut Sums,
 ) -> Tally
-    ensures { (backup : List ℤ) → historyOf result sums.new building.new backup ≡ rules.recorded policy selected locked x (historyOf t sums.old building.old backup) }
+    ensures { (backup : List ℤ) → history_of result sums.new building.new backup ≡ rules.recorded policy selected locked x (history_of t sums.old building.old backup) }
 {
     let u = updated(policy, selected, locked, x, t);
     if u.done {
@@ -255,7 +255,7 @@ pub fn recorded(
 // any other is only noted. The count empties the building history; zeros are written over its sums so that they lie in memory at each tick.
 // Not: 1 copies the sums and not their count; 2 leaves the open block.
 pub fn commanded(c: u8, t: Tally, sums: &mut Sums, building: &mut Sums, backup: &mut Sums) -> Tally
-    ensures { historyOf result sums.new building.new backup.new ≡ rules.commanded c (historyOf t sums.old building.old backup.old) }
+    ensures { history_of result sums.new building.new backup.new ≡ rules.commanded c (history_of t sums.old building.old backup.old) }
 {
     let mut next = t;
     next.command = c;
@@ -278,10 +278,10 @@ pub fn commanded(c: u8, t: Tally, sums: &mut Sums, building: &mut Sums, backup: 
     next
 }
 
-// `freshHistory`: no block, no sample, no backup, and nothing builds, whatever the sums are; the last reference and the last command are 0.
+// `fresh_history`: no block, no sample, no backup, and nothing builds, whatever the sums are; the last reference and the last command are 0.
 // Not: a backup; a last command of 1.
 pub fn fresh_tally() -> Tally
-    ensures { (sums building backup : List ℤ) → historyOf result sums building backup ≡ freshHistory }
+    ensures { (sums building backup : List ℤ) → history_of result sums building backup ≡ fresh_history }
 {
     Tally {
         open: 0,

@@ -30,7 +30,7 @@ use denote.Triple.Spec.{triple_of}
 use denote.Triple.Clauses.{Ended, Clauses, closing}
 use denote.Triple.Walked.{says, Stays, stay_ref, walk_of, AllGo, Goes-ref, Walks, ends_at, walked}
 use denote.Exit.{yes}
-use Rattle.lend.proofs.Params.{Param, lifetimes, Data, values, tys, Picks, slots, stays, all_go, Types, spells, all_tell, none, none-fit, data_of, lists, in_a_row, are-typed, Owned, Had}
+use Rattle.lend.proofs.Params.{Param, lifetimes, Data, values, tys, Picks, slots, stays, all_go, Types, spells, all_tell, none, none_fit, data_of, lists, in_a_row, are_typed, Owned, Had}
 use Rattle.state.specs.declared.Unit.{Unit as State}
 use Rattle.state.specs.contracts.Unit as T
 use Rattle.host.proofs.Thin.{thin}
@@ -103,7 +103,7 @@ module _ (ps : List Param) (R : RattleType) where
         pub ends : (h : State) (r : R.Denot) (v : Val) → ψ a.0.now x r h → ent 𝓤 (⋆ 𝓛 (ended h r v)) (Post v)
         ends h r v e =
             qed 𝓛 (ended h r v) ∵ suffices ! _ (ends_at 𝓛 lent stayed leads at v r
-            (h, none (suc (lifetimes ps)) κs ps 1 (its ps) a.1) (tt, none-fit (suc (lifetimes ps)) κs ps 1 (its ps) a.1)) $
+            (h, none (suc (lifetimes ps)) κs ps 1 (its ps) a.1) (tt, none_fit (suc (lifetimes ps)) κs ps 1 (its ps) a.1)) $
             says ! e $ move ! (2 ∷ 3 ∷ []) $ join ! $ frame ! $ feq_i ! (List Val) (mut_vals a.0) (mut_vals a.0) refl $ fjoin3 ! $ fjoin ! $ done !
 
         abbrev pub Runs : Calls 𝓤 H → Loops 𝓤 H → Fn → SProp 𝓤
@@ -127,7 +127,7 @@ module _ (ps : List Param) (R : RattleType) where
             split ! $ move ! (2 ∷ []) $ fsplit ! $ move ! (2 ∷ 0 ∷ 3 ∷ 1 ∷ []) $
             regoal ! (λ (vs : List Val). prop (WpFn 𝓤 H C Λ f (vptr a.0.ptr.0 a.0.ptr.1 ∷ vs) (Post κs qs a)))
             (in_a_row (suc (lifetimes ps)) κs ps 1 (its ps) a.1) refl $ by !
-            (go κs qs a (are-typed (suc (lifetimes ps)) κs ps 1 (its ps) a.1 are.1))))
+            (go κs qs a (are_typed (suc (lifetimes ps)) κs ps 1 (its ps) a.1 are.1))))
 
   pub exported : {M : Type 1} {𝓤 : Ura M} (𝓛 : Logic 𝓤) (𝓜 : Model 𝓤 𝓛.H) (𝓡 : Running 𝓤 𝓛.H 𝓜) (γ : Env) (ψ : Clause) (f : Fn)
       (self callee : Name) (r : Routine) (known : Contract 𝓤)

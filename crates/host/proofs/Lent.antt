@@ -10,7 +10,7 @@ use denote.Struct.Field.{u8-field, u16-field, u32-field, i64-field}
 use denote.Struct.Laws as LL
 use Rattle.lend.proofs.Loan.{Stretch}
 use Rattle.lend.proofs.Fields.{Layout, end, beside, array, inner, arrays, Contents, Kept}
-use Rattle.lend.proofs.Chosen.{All-sound}
+use Rattle.lend.proofs.Chosen.{AllSound}
 use Rattle.state.specs.declared.Unit.{Unit as State}
 use Rattle.state.specs.declared.Core.{Core}
 use Rattle.state.specs.contracts.Core as CO
@@ -49,8 +49,8 @@ lies =
 abbrev pub Arrays : Type 0
 Arrays = Contents (arrays lies [])
 
-abbrev pub arraysOf : State → Arrays
-arraysOf h =
+abbrev pub arrays_of : State → Arrays
+arrays_of h =
     let m = h.monitors in (
       m.level,
       (
@@ -91,22 +91,22 @@ make c ls =
     }
 
 -- ---- machine values
-abbrev pub valT : State → Val
-valT = LL.val T.the_type T'.the_laws
+abbrev pub val_t : State → Val
+val_t = LL.val T.the_type T'.the_laws
 
-abbrev pub valC : Core → Val
-valC = LL.val CO.the_type CO'.the_laws
+abbrev pub val_c : Core → Val
+val_c = LL.val CO.the_type CO'.the_laws
 
-abbrev pub keptOf : Core → Kept lies
-keptOf c = (valC c, (tt, (tt, (tt, tt))))
+abbrev pub kept_of : Core → Kept lies
+kept_of c = (val_c c, (tt, (tt, (tt, tt))))
 
 -- ---- what whoever holds a unit knows
-pub core-of : (h : State) → Is T.the_row h (valT h ∷ []) → Is CO.the_row h.core (valC h.core ∷ [])
-core-of h g = (LL.owed T.the_type T'.the_laws h (valT h ∷ []) g).0
+pub core_of : (h : State) → Is T.the_row h (val_t h ∷ []) → Is CO.the_row h.core (val_c h.core ∷ [])
+core_of h g = (LL.owed T.the_type T'.the_laws h (val_t h ∷ []) g).0
 
-pub sound-of : (h : State) → Is T.the_row h (valT h ∷ []) → All-sound (arrays lies []) (arraysOf h)
-sound-of h g =
-    let all = LL.owed T.the_type T'.the_laws h (valT h ∷ []) g in
+pub sound_of : (h : State) → Is T.the_row h (val_t h ∷ []) → AllSound (arrays lies []) (arrays_of h)
+sound_of h g =
+    let all = LL.owed T.the_type T'.the_laws h (val_t h ∷ []) g in
     let m = LL.owed MO.the_type MO'.the_laws h.monitors _ all.1.0 in
     let s = LL.owed BU.the_type BU'.the_laws h.buckets _ all.1.1.0 in
     let b = LL.owed HI.the_type HI'.the_laws h.history _ all.1.1.1.0 in (
@@ -136,7 +136,7 @@ sound-of h g =
     )
 
 -- and what whoever makes one has to know
-pub made : (c : Core) (ls : Arrays) → Is CO.the_row c (valC c ∷ []) → All-sound (arrays lies []) ls → Is T.the_row (make c ls) (valT (make c ls) ∷ [])
+pub made : (c : Core) (ls : Arrays) → Is CO.the_row c (val_c c ∷ []) → AllSound (arrays lies []) ls → Is T.the_row (make c ls) (val_t (make c ls) ∷ [])
 made c ls k gs =
     let u = make c ls in
     let s = gs.1.1.1.1.1.1 in

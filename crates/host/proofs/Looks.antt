@@ -37,43 +37,43 @@ use denote.Triple.Clauses.{Ended, Clauses, closing}
 use denote.Triple.Walked.{says, Stays, stay_none_ref, walk_of, Goes-none_ref, ends_at, walked}
 use denote.Exit.{yes}
 use contract.Monad.{fact}
-use Rattle.lend.proofs.Row.{Blocks, declared, placed, after, after-row, copies, Stand, shift, stands, stand-after, cells as row-cells, rooms, alloc-row, pass-row, free-row, found}
-use Rattle.lend.proofs.Params.{Param, lifetimes, Data, values, tys, slots, stays, all_go, Types, spells, all_tell, none, none-fit, data_of, lists, in_a_row, are-typed, Owned, Had}
-use Rattle.lend.proofs.Loans.{Lists, All-shared, all-of-a-share, after_same, Changes, pointers, refTys}
+use Rattle.lend.proofs.Row.{Blocks, declared, placed, after, after_row, copies, Stand, shift, stands, stand_after, cells as row-cells, rooms, alloc_row, pass_row, free_row, found}
+use Rattle.lend.proofs.Params.{Param, lifetimes, Data, values, tys, slots, stays, all_go, Types, spells, all_tell, none, none_fit, data_of, lists, in_a_row, are_typed, Owned, Had}
+use Rattle.lend.proofs.Loans.{Lists, AllShared, all_of_a_share, after_same, Changes, pointers, ref_tys}
 use Rattle.lend.proofs.Fields.{paths, others}
-use Rattle.lend.proofs.Chosen.{Mark, chosen, changed, chosen-back, steps, takes, pointers-typed, ref-copies}
+use Rattle.lend.proofs.Chosen.{Mark, chosen, changed, chosen_back, steps, takes, pointers_typed, ref_copies}
 use Rattle.lend.proofs.Callee as callee
 use Rattle.state.specs.declared.Unit.{Unit as State}
 use Rattle.state.specs.contracts.Core as CO
 use Rattle.state.proofs.Core.TheLaws as CO'
 use Rattle.state.specs.contracts.Unit as T
 use Rattle.state.proofs.Unit.TheLaws as T'
-use Rattle.host.proofs.Thin.{thin, unit-spelt}
+use Rattle.host.proofs.Thin.{thin, unit_spelt}
 use Rattle.host.proofs.Exported.{its}
 use denote.Triple.Entry.{Args, on_entry}
-use Rattle.host.proofs.Lending.{core, all-arrays, fs, at, lists-after, core-read, lends-on}
-use Rattle.host.proofs.Lent.{lies, Arrays, arraysOf, make, valT, core-of}
+use Rattle.host.proofs.Lending.{core, all_arrays, fs, at, lists_after, core_read, lends_on}
+use Rattle.host.proofs.Lent.{lies, Arrays, arrays_of, make, val_t, core_of}
 
 abbrev reference : Ty
 reference = ty_ref (named 0) imm (pointee (T.the_row).written)
 
 -- ---- the function
 module _ (ms : List Mark) (τs : List Ty) where
-  abbrev the-core : ℕ
-  the-core = suc (suc (after τs 0))
+  abbrev the_core : ℕ
+  the_core = suc (suc (after τs 0))
 
-  abbrev the-refs : ℕ
-  the-refs = suc (suc (after τs 1))
+  abbrev the_refs : ℕ
+  the_refs = suc (suc (after τs 1))
 
   abbrev pub reading : ℕ → Name → Fn
   reading lifetimes f = record {
     lifetimes = lifetimes;
     outlives = [];
     params = suc (after τs 0);
-    locals = local (ty_int w16) value_local ∷ local reference value_local ∷ declared τs (local CO'.mir value_local ∷ declared (refTys (fs ms)) []);
-    body = seq (assign (place the-core []) (rv_opd (copy (place 1 (deref T'.mir ∷ field 0 ∷ [])))))
-        (takes (fs ms) (steps all-arrays ms (paths lies [] (λ st. st) zero tt)) T'.mir the-refs
-        (seq (call f (copy (place the-core []) ∷ ref-copies (fs ms) the-refs (copies 2 τs)) (place 0 [])) return));
+    locals = local (ty_int w16) value_local ∷ local reference value_local ∷ declared τs (local CO'.mir value_local ∷ declared (ref_tys (fs ms)) []);
+    body = seq (assign (place the_core []) (rv_opd (copy (place 1 (deref T'.mir ∷ field 0 ∷ [])))))
+        (takes (fs ms) (steps all_arrays ms (paths lies [] (λ st. st) zero tt)) T'.mir the_refs
+        (seq (call f (copy (place the_core []) ∷ ref_copies (fs ms) the_refs (copies 2 τs)) (place 0 [])) return));
   }
 
 -- ---- its contract
@@ -96,23 +96,23 @@ module _ (ps : List Param) where
   Shows = State → Data ps → ℕ → Type 0
 
   module _ {M : Type 1} (𝓤 : Ura M) (ψ : Shows) where
-    abbrev shows-it : Clauses 𝓤 seen
-    shows-it κs a = record {
+    abbrev shows_it : Clauses 𝓤 seen
+    shows_it κs a = record {
       ghost = Unit {0};
       requires = λ _. emp 𝓤;
       ensures = λ _ r end. fact 𝓤 (ψ a.0.now (data_of (suc (lifetimes ps)) κs ps 1 (its ps) a.1) r);
     }
 
     abbrev pub Shown : (𝓛 : Logic 𝓤) → Contract 𝓤
-    Shown 𝓛 = triple_of 𝓛 seen.signature (closing 𝓛 seen shows-it)
+    Shown 𝓛 = triple_of 𝓛 seen.signature (closing 𝓛 seen shows_it)
 
 -- ---- the walk: ψ is what the function's contract says, φ what its callee's does
 module _ (ms : List Mark) (ps : List Param) (φ : callee.Clause (core ∷ []) (fs ms) ps u16) (ψ : Shows ps) where
   abbrev pub Tells : Type 0
-  Tells = (h : State) (x : Data ps) (r : ℕ) (zs : Changes (fs ms)) → φ (h.core, tt) (chosen all-arrays ms (arraysOf h)) x r (lists-after ms h zs) → ψ h x r
+  Tells = (h : State) (x : Data ps) (r : ℕ) (zs : Changes (fs ms)) → φ (h.core, tt) (chosen all_arrays ms (arrays_of h)) x r (lists_after ms h zs) → ψ h x r
 
 module _ (ms : List Mark) (ps : List Param) (φ : callee.Clause (core ∷ []) (fs ms) ps u16) (ψ : Shows ps) (tells : Tells ms ps φ ψ)
-    (same : All-shared (fs ms)) {M : Type 1} {𝓤 : Ura M} (𝓛 : Logic 𝓤) where
+    (same : AllShared (fs ms)) {M : Type 1} {𝓤 : Ura M} (𝓛 : Logic 𝓤) where
   open 𝓛 use {H}
 
   module _ (C : Calls 𝓤 H) (Λ : Loops 𝓤 H) (fm : FmC 𝓤 H 𝓛.laws C) (f : Name) (met : Triple 𝓤 (C f) (callee.Known (core ∷ []) (fs ms) ps u16 𝓤 φ 𝓛))
@@ -136,16 +136,16 @@ module _ (ms : List Mark) (ps : List Param) (φ : callee.Clause (core ∷ []) (f
     vs = values ps x
 
     abbrev ρs : List Ty
-    ρs = refTys (fs ms)
+    ρs = ref_tys (fs ms)
 
     abbrev tokens : Item 𝓤
     tokens = raw (toks 𝓛 (lifetimes ps) κs.1 qs.1)
 
-    abbrev bound : (walk_of 𝓛 (seen ps) (stayed ps) (shows-it ps 𝓤 ψ)).Ghost
+    abbrev bound : (walk_of 𝓛 (seen ps) (stayed ps) (shows_it ps 𝓤 ψ)).Ghost
     bound = ((κs, qs, tt, a, (shr_vals a.0, lists (suc (lifetimes ps)) κs ps 1 (its ps) a.1)), tt)
 
     abbrev Post : Val → SProp 𝓤
-    Post = (walk_of 𝓛 (seen ps) (stayed ps) (shows-it ps 𝓤 ψ)).post bound
+    Post = (walk_of 𝓛 (seen ps) (stayed ps) (shows_it ps 𝓤 ψ)).post bound
 
     abbrev ended : ℕ → Val → List (Item 𝓤)
     ended r v =
@@ -154,8 +154,8 @@ module _ (ms : List Mark) (ps : List Param) (φ : callee.Clause (core ∷ []) (f
 
     ends : (r : ℕ) (v : Val) → ψ h x r → ent 𝓤 (⋆ 𝓛 (ended r v)) (Post v)
     ends r v e =
-        qed 𝓛 (ended r v) ∵ suffices ! _ (ends_at 𝓛 (seen ps) (stayed ps) (shows-it ps 𝓤 ψ) bound v r
-        (tt, none (suc (lifetimes ps)) κs ps 1 (its ps) a.1) (tt, none-fit (suc (lifetimes ps)) κs ps 1 (its ps) a.1)) $
+        qed 𝓛 (ended r v) ∵ suffices ! _ (ends_at 𝓛 (seen ps) (stayed ps) (shows_it ps 𝓤 ψ) bound v r
+        (tt, none (suc (lifetimes ps)) κs ps 1 (its ps) a.1) (tt, none_fit (suc (lifetimes ps)) κs ps 1 (its ps) a.1)) $
         says ! e $ join ! $ frame ! $ feq_i ! (List Val) (shr_vals a.0) (shr_vals a.0) refl $ fjoin3 ! $ fjoin ! $ done !
 
     module _ (typed : Typed τs vs) (l₀ l₁ lₖ : ℕ) (bs : Blocks τs) (cs : Blocks ρs) where
@@ -165,14 +165,14 @@ module _ (ms : List Mark) (ps : List Param) (φ : callee.Clause (core ∷ []) (f
       abbrev E : Env 𝓤 H
       E = (ty_int w16, l₀) ∷ (reference, l₁) ∷ placed τs bs E₁
 
-      at-core : get_or E (the-core ms τs) (no_local 𝓤 H) ≡ (CO'.mir, lₖ)
-      at-core = after-row τs bs E₁ 0 (no_local 𝓤 H)
+      at_core : get_or E (the_core ms τs) (no_local 𝓤 H) ≡ (CO'.mir, lₖ)
+      at_core = after_row τs bs E₁ 0 (no_local 𝓤 H)
 
       at_row : Stand E (no_local 𝓤 H) 2 τs bs
       at_row = shift _ _ (no_local 𝓤 H) 1 τs bs (shift _ _ (no_local 𝓤 H) 0 τs bs (stands τs bs E₁ (no_local 𝓤 H)))
 
-      at-refs : Stand E (no_local 𝓤 H) (the-refs ms τs) ρs cs
-      at-refs = shift _ _ (no_local 𝓤 H) _ ρs cs (shift _ _ (no_local 𝓤 H) _ ρs cs (stand-after τs bs E₁ (no_local 𝓤 H) 1 ρs cs
+      at_refs : Stand E (no_local 𝓤 H) (the_refs ms τs) ρs cs
+      at_refs = shift _ _ (no_local 𝓤 H) _ ρs cs (shift _ _ (no_local 𝓤 H) _ ρs cs (stand_after τs bs E₁ (no_local 𝓤 H) 1 ρs cs
           (shift _ _ (no_local 𝓤 H) 0 ρs cs (stands ρs cs [] (no_local 𝓤 H)))))
 
       runs_on : Sq 𝓛 (‵ (fshr_bor κs.0 (λ s. part_at T.the_row s h b o)) ∷ ‵ (flft κs.0 qs.0) ∷ ‵ (fres 0 ((T.the_row).coded.code h))
@@ -182,30 +182,30 @@ module _ (ms : List Mark) (ps : List Param) (φ : callee.Clause (core ∷ []) (f
       runs_on =
           -- the borrow is looked into, and the core copied out
           looks ! tt T.the_row (Is T.the_row) (shows 𝓛 T.the_row) (LL.vals T.the_type T'.the_laws) (LL.tells T.the_type T'.the_laws)
-          (LL.copy T.the_type T'.the_copy 𝓛) h b o (λ q ws. unit-spelt ! q h ws b o (λ g.
-          use1 𝓛 (‵ (fat q T'.mir b o (valT h))) (𝓛.laws.raw_at q T'.mir b o (valT h)) $
+          (LL.copy T.the_type T'.the_copy 𝓛) h b o (λ q ws. unit_spelt ! q h ws b o (λ g.
+          use1 𝓛 (‵ (fat q T'.mir b o (val_t h))) (𝓛.laws.raw_at q T'.mir b o (val_t h)) $
           -- [a share of the unit's cell; what a Unit owns; what shuts it; the fractured borrow; res; the row at 5; room for the references; the core at 7; …; the
           -- reference at 9; …; the result at 11; …; the tokens at 13; what the parameters own]
-          assigns ! (of_opd ! (load ! (from ! (hop ! (look ! 9 refl) (fld ! refl (stop !)))) (core-read ! q h.core (arraysOf h) b o))) (found ! at-core (stop !)) (init ! 7 refl
-          ((LL.lawful CO.the_type CO'.the_laws 𝓛).typed h.core _ (core-of h g)).0) $
+          assigns ! (of_opd ! (load ! (from ! (hop ! (look ! 9 refl) (fld ! refl (stop !)))) (core_read ! q h.core (arrays_of h) b o))) (found ! at_core (stop !)) (init ! 7 refl
+          ((LL.lawful CO.the_type CO'.the_laws 𝓛).typed h.core _ (core_of h g)).0) $
           -- the addresses are taken, and the call
-          move ! (0 ∷ 13 ∷ 14 ∷ 6 ∷ 9 ∷ 5 ∷ []) $ lends-on ms (core ∷ []) ps u16 φ 𝓛 κs qs.1 a.1 typed b o (h.core, tt) ! fm met q (all-of-a-share (fs ms) same q) (core-of h g, tt) h g
-          reference l₁ refl bs at_row (the-refs ms τs) cs at-refs (λ os. copy (place (the-core ms τs) []) ∷ os)
-          (λ i₁ i₂ i₃ i₄ i₅ i₆ i₇ i₈ os ws' others. and_then ! (load ! (found ! at-core (stop !)) (look ! 12 refl)) others) (λ v r zs e is gs.
+          move ! (0 ∷ 13 ∷ 14 ∷ 6 ∷ 9 ∷ 5 ∷ []) $ lends_on ms (core ∷ []) ps u16 φ 𝓛 κs qs.1 a.1 typed b o (h.core, tt) ! fm met q (all_of_a_share (fs ms) same q) (core_of h g, tt) h g
+          reference l₁ refl bs at_row (the_refs ms τs) cs at_refs (λ os. copy (place (the_core ms τs) []) ∷ os)
+          (λ i₁ i₂ i₃ i₄ i₅ i₆ i₇ i₈ os ws' others. and_then ! (load ! (found ! at_core (stop !)) (look ! 12 refl)) others) (λ v r zs e is gs.
           -- [what the result owns; the unit's cell; the tokens; what is had; the references; the reference at 5; the row; what a Unit owns at 7; what shuts it; the
           -- fractured borrow; res; the core at 11; …; the result at 14; …]
           land ! (from ! (stop !)) (init ! 14 refl ((uint_Lawful 𝓛 w16).typed r _ is).0) $
           -- the borrow is shut
-          rewrite ! 1 (λ (ls : Lists (fs ms)). ‵ (fat q T'.mir b o (valT (make h.core (changed all-arrays ms (arraysOf h) ls)))))
-          (after_same (fs ms) same (chosen all-arrays ms (arraysOf h)) zs) refl $
-          rewrite ! 1 (λ (ls : Arrays). ‵ (fat q T'.mir b o (valT (make h.core ls)))) (chosen-back all-arrays ms (arraysOf h)) refl $ move ! (1 ∷ 7 ∷ 8 ∷ []) $
-          use1 𝓛 (‵ (cell_at q (T.the_row).mir (valT h ∷ []) b o)) (𝓛.laws.at_raw q T'.mir b o (valT h)) $
-          shuts ! tt T.the_row q h (valT h ∷ []) b o $
+          rewrite ! 1 (λ (ls : Lists (fs ms)). ‵ (fat q T'.mir b o (val_t (make h.core (changed all_arrays ms (arrays_of h) ls)))))
+          (after_same (fs ms) same (chosen all_arrays ms (arrays_of h)) zs) refl $
+          rewrite ! 1 (λ (ls : Arrays). ‵ (fat q T'.mir b o (val_t (make h.core ls)))) (chosen_back all_arrays ms (arrays_of h)) refl $ move ! (1 ∷ 7 ∷ 8 ∷ []) $
+          use1 𝓛 (‵ (cell_at q (T.the_row).mir (val_t h ∷ []) b o)) (𝓛.laws.at_raw q T'.mir b o (val_t h)) $
+          shuts ! tt T.the_row q h (val_t h ∷ []) b o $
           -- [the token; what the result owns; the tokens; what is had; the references; the reference at 5; the row; the fractured borrow; res; the core at 9; …; the
           -- result at 12; …]
           returns ! (look ! 12 refl) $ forget ! 12 refl $ move ! (12 ∷ 13 ∷ []) $ free1 ! $ forget ! 5 refl $ move ! (5 ∷ 11 ∷ []) $ free1 ! $
-          move ! (5 ∷ []) $ free-row ! τs vs bs E₁ typed $ forget ! 7 refl $ move ! (7 ∷ 8 ∷ []) $ free1 ! $ move ! (4 ∷ []) $
-          free-row ! ρs (pointers (fs ms) b (at ms o) []) cs [] (pointers-typed (fs ms) b (at ms o)) $ free0 ! $
+          move ! (5 ∷ []) $ free_row ! τs vs bs E₁ typed $ forget ! 7 refl $ move ! (7 ∷ 8 ∷ []) $ free1 ! $ move ! (4 ∷ []) $
+          free_row ! ρs (pointers (fs ms) b (at ms o) []) cs [] (pointers_typed (fs ms) b (at ms o)) $ free0 ! $
           keep ! (0 ∷ 2 ∷ 5 ∷ 4 ∷ 3 ∷ 1 ∷ []) $ by ! (ends r v (tells h x r zs e)))))
 
     walk : Typed τs vs → ent 𝓤 (on_entry 𝓛 (seen ps).signature κs qs a bound.0.4)
@@ -215,13 +215,13 @@ module _ (ms : List Mark) (ps : List Param) (φ : callee.Clause (core ∷ []) (f
         split ! $ move ! (2 ∷ []) $ fsplit ! $ move ! (2 ∷ 0 ∷ 3 ∷ 1 ∷ []) $
         regoal ! (λ (ws : List Val). prop (WpFn 𝓤 H C Λ (reading ms τs (suc (lifetimes ps)) f) (vptr b o ∷ ws) Post)) (in_a_row (suc (lifetimes ps)) κs ps 1 (its ps) a.1) refl $
         enter ! C Λ (reading ms τs (suc (lifetimes ps)) f) (vptr b o ∷ vs) Post $
-        alloc1 ! (λ l₀. alloc1 ! (λ l₁. alloc-row ! τs (λ bs. alloc1 ! (λ lₖ. alloc-row ! ρs (λ cs. alloc0 ! $ params1 ! $
+        alloc1 ! (λ l₀. alloc1 ! (λ l₁. alloc_row ! τs (λ bs. alloc1 ! (λ lₖ. alloc_row ! ρs (λ cs. alloc0 ! $ params1 ! $
         -- [room for the references; the core; …; room for the row at 3; the reference at 4; …; the result at 6; …; the token; the shared reference; …]
-        pass1 ! (init ! 4 refl (tt, tt)) $ move ! (3 ∷ []) $ pass-row ! τs vs bs (E₁ typed l₀ l₁ lₖ bs cs) typed $
+        pass1 ! (init ! 4 refl (tt, tt)) $ move ! (3 ∷ []) $ pass_row ! τs vs bs (E₁ typed l₀ l₁ lₖ bs cs) typed $
         move ! (9 ∷ []) $ fsplit3 ! $ drop ! $ move ! (1 ∷ 10 ∷ 0 ∷ []) $ runs_on typed l₀ l₁ lₖ bs cs)))))
 
 pub reads : {M : Type 1} {𝓤 : Ura M} (𝓛 : Logic 𝓤) (𝓜 : Model 𝓤 𝓛.H) (𝓡 : Running 𝓤 𝓛.H 𝓜) (γ : Binds) (ms : List Mark) (ps : List Param)
-    (φ : callee.Clause (core ∷ []) (fs ms) ps u16) (ψ : Shows ps) → All-shared (fs ms) → Tells ms ps φ ψ
+    (φ : callee.Clause (core ∷ []) (fs ms) ps u16) (ψ : Shows ps) → AllShared (fs ms) → Tells ms ps φ ψ
     → (self f : Name) (r : Routine)
     → γ f ≡ r
     → Triple 𝓤 (𝓡.run r) (callee.Known (core ∷ []) (fs ms) ps u16 𝓤 φ 𝓛)
@@ -229,10 +229,10 @@ pub reads : {M : Type 1} {𝓤 : Ura M} (𝓛 : Logic 𝓤) (𝓜 : Model 𝓤 �
     → Triple 𝓤 ((tables 𝓤 𝓛.H 𝓜 𝓡 γ).C self) (Shown ps 𝓤 ψ 𝓛)
 reads {𝓤 = 𝓤} 𝓛 𝓜 𝓡 γ ms ps φ ψ same tells self f r is met closed =
     let n = suc (lifetimes ps) in
-    thin 𝓛 𝓜 𝓡 γ (seen ps) (stayed ps) (shows-it ps 𝓤 ψ) (reading ms (tys ps 1) n f) self f r (callee.Known (core ∷ []) (fs ms) ps u16 𝓤 φ 𝓛) is met
+    thin 𝓛 𝓜 𝓡 γ (seen ps) (stayed ps) (shows_it ps 𝓤 ψ) (reading ms (tys ps 1) n f) self f r (callee.Known (core ∷ []) (fs ms) ps u16 𝓤 φ 𝓛) is met
     -- what is lent comes back
     (Goes-none_ref 𝓛 n (0 ∷ []) tt (plain (λ _. T.the_row)) yes, all_go n 𝓛 ps 1 (its ps))
-    (λ C Λ fm known. walked 𝓛 (seen ps) (stayed ps) (shows-it ps 𝓤 ψ) (WpFn 𝓤 𝓛.H C Λ (reading ms (tys ps 1) n f)) (λ κs. (shr_vals, spells n κs ps 1 (its ps)))
+    (λ C Λ fm known. walked 𝓛 (seen ps) (stayed ps) (shows_it ps 𝓤 ψ) (WpFn 𝓤 𝓛.H C Λ (reading ms (tys ps 1) n f)) (λ κs. (shr_vals, spells n κs ps 1 (its ps)))
     (λ κs. (shr_Tells (named 0) κs.0 T.the_row, all_tell n κs ps 1 (its ps)))
     (λ κs qs bounds a g are. via 𝓤 _ (fst∗ 𝓤 _ (emp 𝓤)) (walk ms ps φ ψ tells same 𝓛 C Λ fm f known κs qs a
-    (are-typed n κs ps 1 (its ps) a.1 are.1)))) closed
+    (are_typed n κs ps 1 (its ps) a.1 are.1)))) closed

@@ -29,11 +29,11 @@ use denote.Steps.{only, opens, closes, owned, nothing}
 use denote.Struct.Laws as LL
 use denote.Triple.Statement.{Triple}
 use denote.Triple.Entry.{Args}
-use Rattle.lend.proofs.Row.{Blocks, declared, placed, copies, Stand, shift, stands, rooms, alloc-row, free-row}
+use Rattle.lend.proofs.Row.{Blocks, declared, placed, copies, Stand, shift, stands, rooms, alloc_row, free_row}
 use Rattle.lend.proofs.Params.{lifetimes, Owned}
-use Rattle.lend.proofs.Loans.{all-of-the-whole, Changes, pointers, refTys}
+use Rattle.lend.proofs.Loans.{all_of_the_whole, Changes, pointers, ref_tys}
 use Rattle.lend.proofs.Fields.{paths, others}
-use Rattle.lend.proofs.Chosen.{Mark, chosen, steps, takes, pointers-typed, ref-copies}
+use Rattle.lend.proofs.Chosen.{Mark, chosen, steps, takes, pointers_typed, ref_copies}
 use Rattle.lend.proofs.Callee as callee
 use Rattle.state.specs.declared.Unit.{Unit as State}
 use Rattle.state.specs.declared.Core.{Core}
@@ -41,26 +41,26 @@ use Rattle.state.specs.contracts.Core as CO
 use Rattle.state.proofs.Core.TheLaws as CO'
 use Rattle.state.specs.contracts.Unit as T
 use Rattle.state.proofs.Unit.TheLaws as T'
-use Rattle.host.proofs.Thin.{unit-spelt}
+use Rattle.host.proofs.Thin.{unit_spelt}
 use Rattle.host.proofs.Exported.{its, reference, lent, Clause, Shown, Post, begun, ends, Runs, exported}
-use Rattle.host.proofs.Lending.{core, all-arrays, fs, at, lists-after, arrays-after, with, core-stored, lends-on}
-use Rattle.host.proofs.Lent.{lies, arraysOf, valT, valC, made}
+use Rattle.host.proofs.Lending.{core, all_arrays, fs, at, lists_after, arrays_after, with, core_stored, lends_on}
+use Rattle.host.proofs.Lent.{lies, arrays_of, val_t, val_c, made}
 
 abbrev pub makes : List Mark → Name → Fn
 makes ms f = record {
   lifetimes = 1;
   outlives = [];
   params = 1;
-  locals = local ty_unit value_local ∷ local reference value_local ∷ local CO'.mir value_local ∷ declared (refTys (fs ms)) [];
-  body = takes (fs ms) (steps all-arrays ms (paths lies [] (λ st. st) zero tt)) T'.mir 3
-      (seq (call f (ref-copies (fs ms) 3 (copies 2 [])) (place 2 []))
+  locals = local ty_unit value_local ∷ local reference value_local ∷ local CO'.mir value_local ∷ declared (ref_tys (fs ms)) [];
+  body = takes (fs ms) (steps all_arrays ms (paths lies [] (λ st. st) zero tt)) T'.mir 3
+      (seq (call f (ref_copies (fs ms) 3 (copies 2 [])) (place 2 []))
       (seq (assign (place 1 (deref T'.mir ∷ field 0 ∷ [])) (rv_opd (copy (place 2 [])))) (seq (assign (place 0 []) (rv_opd opd_unit)) return)));
 }
 
 -- ψ is what the function's contract says, φ what its callee's does
 module _ (ms : List Mark) (φ : callee.Clause [] (fs ms) [] CO.the_row) (ψ : Clause [] unit) where
   abbrev pub Tells : Type 0
-  Tells = (h : State) (c : Core) (zs : Changes (fs ms)) → φ tt (chosen all-arrays ms (arraysOf h)) tt c (lists-after ms h zs) → ψ h tt tt (with ms h c zs)
+  Tells = (h : State) (c : Core) (zs : Changes (fs ms)) → φ tt (chosen all_arrays ms (arrays_of h)) tt c (lists_after ms h zs) → ψ h tt tt (with ms h c zs)
 
 module _ (ms : List Mark) (φ : callee.Clause [] (fs ms) [] CO.the_row) (ψ : Clause [] unit) (tells : Tells ms φ ψ)
     {M : Type 1} {𝓤 : Ura M} (𝓛 : Logic 𝓤) (C : Calls 𝓤 𝓛.H) (Λ : Loops 𝓤 𝓛.H) (fm : FmC 𝓤 𝓛.H 𝓛.laws C)
@@ -78,14 +78,14 @@ module _ (ms : List Mark) (φ : callee.Clause [] (fs ms) [] CO.the_row) (ψ : Cl
   o = a.0.ptr.1
 
   abbrev ρs : List Ty
-  ρs = refTys (fs ms)
+  ρs = ref_tys (fs ms)
 
   module _ (l₀ l₁ lₖ : ℕ) (cs : Blocks ρs) where
     abbrev E : Env 𝓤 H
     E = (ty_unit, l₀) ∷ (reference, l₁) ∷ (CO'.mir, lₖ) ∷ placed ρs cs []
 
-    at-refs : Stand E (no_local 𝓤 H) 3 ρs cs
-    at-refs = shift _ _ (no_local 𝓤 H) 2 ρs cs (shift _ _ (no_local 𝓤 H) 1 ρs cs (shift _ _ (no_local 𝓤 H) 0 ρs cs (stands ρs cs [] (no_local 𝓤 H))))
+    at_refs : Stand E (no_local 𝓤 H) 3 ρs cs
+    at_refs = shift _ _ (no_local 𝓤 H) 2 ρs cs (shift _ _ (no_local 𝓤 H) 1 ρs cs (shift _ _ (no_local 𝓤 H) 0 ρs cs (stands ρs cs [] (no_local 𝓤 H))))
 
     runs_on : Sq 𝓛 (‵ (fobs a.0.name ((T.the_row).coded.code h)) ∷ ‵ (fbor κs.0 (Body (mem T.the_row) b o a.0.name)) ∷ ‵ (flft κs.0 qs.0)
         ∷ raw (toks 𝓛 0 κs.1 qs.1) ∷ ‵ (Owned 1 κs [] 1 (its []) a.1) ∷ rooms ρs cs
@@ -93,48 +93,48 @@ module _ (ms : List Mark) (φ : callee.Clause [] (fs ms) [] CO.the_row) (ψ : Cl
         (runs C Λ E (makes ms f).body (at_ret E (Post [] unit 𝓤 ψ 𝓛 κs qs a)))
     runs_on =
         -- the borrow is opened
-        opens ! tt T.the_row {h = h} b o (λ ws. unit-spelt ! full_share h ws b o (λ g.
-        use1 𝓛 (‵ (fat full_share T'.mir b o (valT h))) (𝓛.laws.raw_at full_share T'.mir b o (valT h)) $ move ! (1 ∷ []) $ drop ! $ nothing ! $
+        opens ! tt T.the_row {h = h} b o (λ ws. unit_spelt ! full_share h ws b o (λ g.
+        use1 𝓛 (‵ (fat full_share T'.mir b o (val_t h))) (𝓛.laws.raw_at full_share T'.mir b o (val_t h)) $ move ! (1 ∷ []) $ drop ! $ nothing ! $
         -- [an empty row; the unit's cell; the open borrow; obs; auth; the tokens; what the parameters own; room for the references; the reference at 8; …; the core
         -- at 10; …; the result at 12; …]: the addresses are taken, and the call
-        move ! (1 ∷ 5 ∷ 6 ∷ 7 ∷ 8 ∷ 0 ∷ []) $ lends-on ms [] [] CO.the_row φ 𝓛 κs qs.1 a.1 tt b o tt ! fm met full_share (all-of-the-whole (fs ms)) tt h g
-        reference l₁ refl tt tt 3 cs at-refs (λ os. os) (λ i₁ i₂ i₃ i₄ i₅ i₆ i₇ i₈ os ws others. others) (λ v c zs e is gs.
+        move ! (1 ∷ 5 ∷ 6 ∷ 7 ∷ 8 ∷ 0 ∷ []) $ lends_on ms [] [] CO.the_row φ 𝓛 κs qs.1 a.1 tt b o tt ! fm met full_share (all_of_the_whole (fs ms)) tt h g
+        reference l₁ refl tt tt 3 cs at_refs (λ os. os) (λ i₁ i₂ i₃ i₄ i₅ i₆ i₇ i₈ os ws others. others) (λ v c zs e is gs.
         -- [what the core owns; the unit's cell; the tokens; what is had; the references; the reference at 5; the row; the open borrow; obs; auth; …; the core at
         -- 11; …; the result at 13; …]: the core lands, is spelt out, and is stored
         land ! (from ! (stop !)) (init ! 11 refl ((LL.lawful CO.the_type CO'.the_laws 𝓛).typed c _ is).0) $
         rewrite ! 11 (λ (u : Val). ‵ (fat full_share CO'.mir lₖ 0 u)) (ap only (LL.tells CO.the_type CO'.the_laws c (v ∷ []) is)) refl $ drop ! $
-        assigns ! (of_opd ! (load ! (from ! (stop !)) (look ! 10 refl))) (from ! (hop ! (look ! 4 refl) (fld ! refl (stop !)))) (core-stored ! h.core c (arrays-after ms h zs) b o (core-spelt c v is)) $
+        assigns ! (of_opd ! (load ! (from ! (stop !)) (look ! 10 refl))) (from ! (hop ! (look ! 4 refl) (fld ! refl (stop !)))) (core_stored ! h.core c (arrays_after ms h zs) b o (core_spelt c v is)) $
         assigns ! (of_opd ! (unit_lit !)) (from ! (stop !)) (init ! 12 refl (tt, tt)) $
         -- the borrow is closed at the new unit
-        use1 𝓛 (‵ (cell_at full_share (T.the_row).mir (valT (with ms h c zs) ∷ []) b o)) (𝓛.laws.at_raw full_share T'.mir b o (valT (with ms h c zs))) $
+        use1 𝓛 (‵ (cell_at full_share (T.the_row).mir (val_t (with ms h c zs) ∷ []) b o)) (𝓛.laws.at_raw full_share T'.mir b o (val_t (with ms h c zs))) $
         owned ! T.the_row (Is T.the_row) (LL.makes T.the_type T'.the_plain 𝓛) (with ms h c zs) _
-        (made c (arrays-after ms h zs) (core-spelt c v is) gs) $
-        move ! (1 ∷ 0 ∷ 7 ∷ 8 ∷ 9 ∷ []) $ closes ! tt T.the_row (with ms h c zs) (valT (with ms h c zs) ∷ []) b o $
+        (made c (arrays_after ms h zs) (core_spelt c v is) gs) $
+        move ! (1 ∷ 0 ∷ 7 ∷ 8 ∷ 9 ∷ []) $ closes ! tt T.the_row (with ms h c zs) (val_t (with ms h c zs) ∷ []) b o $
         -- [obs; the borrow; the token; the tokens; what is had; the references; the reference at 6; the row; …; the core at 9; …; the result at 11; …]
         returns ! (look ! 11 refl) $ forget ! 11 refl $ move ! (11 ∷ 12 ∷ []) $ free1 ! $ forget ! 6 refl $ move ! (6 ∷ 8 ∷ []) $ free1 ! $
         forget ! 7 refl $ move ! (7 ∷ 8 ∷ []) $ free1 ! $ move ! (5 ∷ []) $
-        free-row ! ρs (pointers (fs ms) b (at ms o) []) cs [] (pointers-typed (fs ms) b (at ms o)) $ free0 ! $ move ! (5 ∷ []) $ drop ! $
+        free_row ! ρs (pointers (fs ms) b (at ms o) []) cs [] (pointers_typed (fs ms) b (at ms o)) $ free0 ! $ move ! (5 ∷ []) $ drop ! $
         owned ! unit (Is unit) (Nothing-Makes 𝓛) tt _ refl $ move ! (1 ∷ 2 ∷ 3 ∷ 4 ∷ 5 ∷ 0 ∷ []) $
         by ! (ends [] unit 𝓤 ψ 𝓛 κs qs a (with ms h c zs) tt vunit (tells h c zs e)))))
       where
-        core-spelt : (c : Core) (v : Val) → Is CO.the_row c (v ∷ []) → Is CO.the_row c (valC c ∷ [])
-        core-spelt c v is = subst (λ (us : List Val). Is CO.the_row c us) (LL.tells CO.the_type CO'.the_laws c (v ∷ []) is) is
+        core_spelt : (c : Core) (v : Val) → Is CO.the_row c (v ∷ []) → Is CO.the_row c (val_c c ∷ [])
+        core_spelt c v is = subst (λ (us : List Val). Is CO.the_row c us) (LL.tells CO.the_type CO'.the_laws c (v ∷ []) is) is
 
   walk : ent 𝓤 (⋆ 𝓛 (begun [] unit 𝓤 ψ 𝓛 κs qs a)) (Runs [] unit 𝓤 ψ 𝓛 κs qs a C Λ (makes ms f))
   walk =
       qed 𝓛 (begun [] unit 𝓤 ψ 𝓛 κs qs a) ∵ enter ! C Λ (makes ms f) (vptr b o ∷ []) (Post [] unit 𝓤 ψ 𝓛 κs qs a) $
-      alloc1 ! (λ l₀. alloc1 ! (λ l₁. alloc1 ! (λ lₖ. alloc-row ! ρs (λ cs. alloc0 ! $ params1 ! $
+      alloc1 ! (λ l₀. alloc1 ! (λ l₁. alloc1 ! (λ lₖ. alloc_row ! ρs (λ cs. alloc0 ! $ params1 ! $
       -- [room for the references; the core at 1; …; the reference at 3; …; the result at 5; …]
       pass1 ! (init ! 3 refl (tt, tt)) $ pass0 ! $ move ! (8 ∷ []) $ fsplit3 ! $ drop ! $ move ! (0 ∷ 1 ∷ 9 ∷ 10 ∷ 11 ∷ 2 ∷ 5 ∷ 6 ∷ 3 ∷ 4 ∷ 7 ∷ 8 ∷ []) $
       runs_on l₀ l₁ lₖ cs))))
 
-pub makes-anew : {M : Type 1} {𝓤 : Ura M} (𝓛 : Logic 𝓤) (𝓜 : Model 𝓤 𝓛.H) (𝓡 : Running 𝓤 𝓛.H 𝓜) (γ : Binds) (ms : List Mark)
+pub makes_anew : {M : Type 1} {𝓤 : Ura M} (𝓛 : Logic 𝓤) (𝓜 : Model 𝓤 𝓛.H) (𝓡 : Running 𝓤 𝓛.H 𝓜) (γ : Binds) (ms : List Mark)
     (φ : callee.Clause [] (fs ms) [] CO.the_row) (ψ : Clause [] unit) → Tells ms φ ψ
     → (self f : Name) (r : Routine)
     → γ f ≡ r
     → Triple 𝓤 (𝓡.run r) (callee.Known [] (fs ms) [] CO.the_row 𝓤 φ 𝓛)
     → Closed 𝓤 𝓛.H (tables 𝓤 𝓛.H 𝓜 𝓡 γ).C (tables 𝓤 𝓛.H 𝓜 𝓡 γ).Λ self (makes ms f)
     → Triple 𝓤 ((tables 𝓤 𝓛.H 𝓜 𝓡 γ).C self) (Shown [] unit 𝓤 ψ 𝓛)
-makes-anew {𝓤 = 𝓤} 𝓛 𝓜 𝓡 γ ms φ ψ tells self f r is met closed =
+makes_anew {𝓤 = 𝓤} 𝓛 𝓜 𝓡 γ ms φ ψ tells self f r is met closed =
     exported [] unit 𝓛 𝓜 𝓡 γ ψ (makes ms f) self f r (callee.Known [] (fs ms) [] CO.the_row 𝓤 φ 𝓛) is met
     (λ C Λ fm known κs qs a typed. walk ms φ ψ tells 𝓛 C Λ fm f known κs qs a) closed

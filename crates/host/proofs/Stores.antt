@@ -33,11 +33,11 @@ use denote.Steps.{only, opens, closes, owned}
 use denote.Struct.Laws as LL
 use denote.Triple.Statement.{Triple}
 use denote.Triple.Entry.{Args}
-use Rattle.lend.proofs.Row.{Blocks, declared, placed, after, after-row, copies, Stand, shift, stands, stand-after, cells as row-cells, rooms, alloc-row, pass-row, free-row, found}
+use Rattle.lend.proofs.Row.{Blocks, declared, placed, after, after_row, copies, Stand, shift, stands, stand_after, cells as row-cells, rooms, alloc_row, pass_row, free_row, found}
 use Rattle.lend.proofs.Params.{Param, lifetimes, Data, values, tys, Owned}
-use Rattle.lend.proofs.Loans.{all-of-the-whole, Changes, pointers, refTys}
+use Rattle.lend.proofs.Loans.{all_of_the_whole, Changes, pointers, ref_tys}
 use Rattle.lend.proofs.Fields.{paths, others}
-use Rattle.lend.proofs.Chosen.{Mark, chosen, steps, takes, pointers-typed, ref-copies}
+use Rattle.lend.proofs.Chosen.{Mark, chosen, steps, takes, pointers_typed, ref_copies}
 use Rattle.lend.proofs.Callee as callee
 use Rattle.state.specs.declared.Unit.{Unit as State}
 use Rattle.state.specs.declared.Core.{Core}
@@ -48,54 +48,54 @@ use Rattle.unit.specs.contracts.Stepped as S
 use Rattle.unit.proofs.Stepped.TheLaws as S'
 use Rattle.state.specs.contracts.Unit as T
 use Rattle.state.proofs.Unit.TheLaws as T'
-use Rattle.host.proofs.Thin.{unit-spelt}
+use Rattle.host.proofs.Thin.{unit_spelt}
 use Rattle.host.proofs.Exported.{its, reference, lent, Clause, Shown, x, Post, begun, ends, Runs, exported}
-use Rattle.host.proofs.Lending.{core, all-arrays, fs, at, lists-after, arrays-after, with, core-read, core-stored, lends-on}
-use Rattle.host.proofs.Lent.{lies, arraysOf, valT, valC, core-of, made}
+use Rattle.host.proofs.Lending.{core, all_arrays, fs, at, lists_after, arrays_after, with, core_read, core_stored, lends_on}
+use Rattle.host.proofs.Lent.{lies, arrays_of, val_t, val_c, core_of, made}
 
 -- what whoever holds a step's result knows of its two fields
-refusal-fits : (r : Stepped) (v : Val) → Is S.the_row r (v ∷ []) → r.refusal < 2 ^ 8
-refusal-fits r v is = (LL.owed S.the_type S'.the_laws r (v ∷ []) is).0.1
+refusal_fits : (r : Stepped) (v : Val) → Is S.the_row r (v ∷ []) → r.refusal < 2 ^ 8
+refusal_fits r v is = (LL.owed S.the_type S'.the_laws r (v ∷ []) is).0.1
 
-core_is : (r : Stepped) (v : Val) → Is S.the_row r (v ∷ []) → Is CO.the_row r.core (valC r.core ∷ [])
+core_is : (r : Stepped) (v : Val) → Is S.the_row r (v ∷ []) → Is CO.the_row r.core (val_c r.core ∷ [])
 core_is r v is = (LL.owed S.the_type S'.the_laws r (v ∷ []) is).1.0
 
 -- the number is not 0, as the test says it
-not-0 : (n : ℕ) → T (not (eqb n 0)) → n ≡ 0 → ⊥
-not-0 n t e = T_not (eqb n 0) t (subst (λ (m : ℕ). T (eqb m 0)) (sym e) tt)
+not_0 : (n : ℕ) → T (not (eqb n 0)) → n ≡ 0 → ⊥
+not_0 n t e = T_not (eqb n 0) t (subst (λ (m : ℕ). T (eqb m 0)) (sym e) tt)
 
 -- an `if` with no `else`, where both ways leave the same: what follows it is walked once
 module _ {M : Type 1} {𝓤 : Ura M} {𝓛 : Logic 𝓤} {K : Type 0} {Γ Γ' : List (Item 𝓤)}
     {C : Calls 𝓤 𝓛.H} {Λ : Loops 𝓤 𝓛.H} {E : Env 𝓤 𝓛.H} {q : Aim 𝓤 𝓛.H} where
-  stores-if : K → {c : Operand} {a rest : Code} {y : Bool} → Opd K 𝓛 Γ E c (vbool y)
+  stores_if : K → {c : Operand} {a rest : Code} {y : Bool} → Opd K 𝓛 Γ E c (vbool y)
       → (T y → Step K 𝓛 Γ' (runs C Λ E rest q) Γ (runs C Λ E (seq a rest) q)) → (T (not y) → Step K 𝓛 Γ' (runs C Λ E rest q) Γ (runs C Λ E rest q))
       → Step K 𝓛 Γ' (runs C Λ E rest q) Γ (runs C Λ E (seq (cond c a skip) rest) q)
-  stores-if t test held failed =
+  stores_if t test held failed =
       step (λ s. first t $ branches t test (λ h. record { prf = (held h $ s).prf }) (λ h. skips t $ record { prf = (failed h $ s).prf }))
 
 module _ (ms : List Mark) where
   -- the numbers of the locals: the outcome, the core that is passed, the first reference, the test
   module _ (τs : List Ty) where
-    abbrev the-outcome : ℕ
-    the-outcome = suc (suc (after τs 0))
+    abbrev the_outcome : ℕ
+    the_outcome = suc (suc (after τs 0))
 
-    abbrev the-core : ℕ
-    the-core = suc (suc (after τs 1))
+    abbrev the_core : ℕ
+    the_core = suc (suc (after τs 1))
 
-    abbrev the-refs : ℕ
-    the-refs = suc (suc (after τs 2))
+    abbrev the_refs : ℕ
+    the_refs = suc (suc (after τs 2))
 
-    abbrev the-test : ℕ
-    the-test = suc (suc (after τs (suc (suc (after (refTys (fs ms)) 0)))))
+    abbrev the_test : ℕ
+    the_test = suc (suc (after τs (suc (suc (after (ref_tys (fs ms)) 0)))))
 
     abbrev pub code : Name → Code
     code f =
-        seq (assign (place the-core []) (rv_opd (copy (place 1 (deref T'.mir ∷ field 0 ∷ [])))))
-        (takes (fs ms) (steps all-arrays ms (paths lies [] (λ st. st) zero tt)) T'.mir the-refs
-        (seq (call f (copy (place the-core []) ∷ ref-copies (fs ms) the-refs (copies 2 τs)) (place the-outcome []))
-        (seq (assign (place the-test []) (op2 eq (copy (place the-outcome (field 0 ∷ []))) (int w8 0)))
-        (seq (cond (copy (place the-test [])) (assign (place 1 (deref T'.mir ∷ field 0 ∷ [])) (rv_opd (copy (place the-outcome (field 1 ∷ []))))) skip)
-        (seq (assign (place 0 []) (rv_opd (copy (place the-outcome (field 0 ∷ []))))) return)))))
+        seq (assign (place the_core []) (rv_opd (copy (place 1 (deref T'.mir ∷ field 0 ∷ [])))))
+        (takes (fs ms) (steps all_arrays ms (paths lies [] (λ st. st) zero tt)) T'.mir the_refs
+        (seq (call f (copy (place the_core []) ∷ ref_copies (fs ms) the_refs (copies 2 τs)) (place the_outcome []))
+        (seq (assign (place the_test []) (op2 eq (copy (place the_outcome (field 0 ∷ []))) (int w8 0)))
+        (seq (cond (copy (place the_test [])) (assign (place 1 (deref T'.mir ∷ field 0 ∷ [])) (rv_opd (copy (place the_outcome (field 1 ∷ []))))) skip)
+        (seq (assign (place 0 []) (rv_opd (copy (place the_outcome (field 0 ∷ []))))) return)))))
 
     abbrev pub stored : ℕ → Name → Fn
     stored lifetimes f = record {
@@ -103,14 +103,14 @@ module _ (ms : List Mark) where
       outlives = [];
       params = suc (after τs 0);
       locals = local (ty_int w8) value_local ∷ local reference value_local
-          ∷ declared τs (local S'.mir value_local ∷ local CO'.mir value_local ∷ declared (refTys (fs ms)) (local ty_bool value_local ∷ []));
+          ∷ declared τs (local S'.mir value_local ∷ local CO'.mir value_local ∷ declared (ref_tys (fs ms)) (local ty_bool value_local ∷ []));
       body = code f;
     }
 
 -- ---- the walk: the core goes in by value, and comes back with the number. ψ is what the function's contract says, φ what its callee's does
 module _ (ms : List Mark) (ps : List Param) (φ : callee.Clause (core ∷ []) (fs ms) ps S.the_row) (ψ : Clause ps u8) where
   abbrev pub Tells : Type 0
-  Tells = (h : State) (x : Data ps) (r : Stepped) (zs : Changes (fs ms)) → φ (h.core, tt) (chosen all-arrays ms (arraysOf h)) x r (lists-after ms h zs) → ψ h x r.refusal (with ms h r.core zs)
+  Tells = (h : State) (x : Data ps) (r : Stepped) (zs : Changes (fs ms)) → φ (h.core, tt) (chosen all_arrays ms (arrays_of h)) x r (lists_after ms h zs) → ψ h x r.refusal (with ms h r.core zs)
 
   -- what is turned down leaves the unit
   abbrev pub Leaves : Type 0
@@ -139,7 +139,7 @@ module _ (ms : List Mark) (ps : List Param) (φ : callee.Clause (core ∷ []) (f
   vs = values ps (x ps u8 𝓤 ψ 𝓛 κs qs a)
 
   abbrev ρs : List Ty
-  ρs = refTys (fs ms)
+  ρs = ref_tys (fs ms)
 
   abbrev us : List Val
   us = pointers (fs ms) b (at ms o) []
@@ -154,20 +154,20 @@ module _ (ms : List Mark) (ps : List Param) (φ : callee.Clause (core ∷ []) (f
     abbrev E : Env 𝓤 H
     E = (ty_int w8, l₀) ∷ (reference, l₁) ∷ placed τs bs E₁
 
-    at-outcome : get_or E (the-outcome ms τs) (no_local 𝓤 H) ≡ (S'.mir, lₛ)
-    at-outcome = after-row τs bs E₁ 0 (no_local 𝓤 H)
+    at_outcome : get_or E (the_outcome ms τs) (no_local 𝓤 H) ≡ (S'.mir, lₛ)
+    at_outcome = after_row τs bs E₁ 0 (no_local 𝓤 H)
 
-    at-core : get_or E (the-core ms τs) (no_local 𝓤 H) ≡ (CO'.mir, lₖ)
-    at-core = after-row τs bs E₁ 1 (no_local 𝓤 H)
+    at_core : get_or E (the_core ms τs) (no_local 𝓤 H) ≡ (CO'.mir, lₖ)
+    at_core = after_row τs bs E₁ 1 (no_local 𝓤 H)
 
-    at_test : get_or E (the-test ms τs) (no_local 𝓤 H) ≡ (ty_bool, lₜ)
-    at_test = after-row τs bs E₁ (suc (suc (after ρs 0))) (no_local 𝓤 H) ∙ after-row ρs cs E₂ 0 (no_local 𝓤 H)
+    at_test : get_or E (the_test ms τs) (no_local 𝓤 H) ≡ (ty_bool, lₜ)
+    at_test = after_row τs bs E₁ (suc (suc (after ρs 0))) (no_local 𝓤 H) ∙ after_row ρs cs E₂ 0 (no_local 𝓤 H)
 
     at_row : Stand E (no_local 𝓤 H) 2 τs bs
     at_row = shift _ _ (no_local 𝓤 H) 1 τs bs (shift _ _ (no_local 𝓤 H) 0 τs bs (stands τs bs E₁ (no_local 𝓤 H)))
 
-    at-refs : Stand E (no_local 𝓤 H) (the-refs ms τs) ρs cs
-    at-refs = shift _ _ (no_local 𝓤 H) _ ρs cs (shift _ _ (no_local 𝓤 H) _ ρs cs (stand-after τs bs E₁ (no_local 𝓤 H) 2 ρs cs
+    at_refs : Stand E (no_local 𝓤 H) (the_refs ms τs) ρs cs
+    at_refs = shift _ _ (no_local 𝓤 H) _ ρs cs (shift _ _ (no_local 𝓤 H) _ ρs cs (stand_after τs bs E₁ (no_local 𝓤 H) 2 ρs cs
         (shift _ _ (no_local 𝓤 H) 1 ρs cs (shift _ _ (no_local 𝓤 H) 0 ρs cs (stands ρs cs E₂ (no_local 𝓤 H))))))
 
     runs_on : Sq 𝓛 (‵ (fobs a.0.name ((T.the_row).coded.code h)) ∷ ‵ (fbor κs.0 (Body (mem T.the_row) b o a.0.name)) ∷ ‵ (flft κs.0 qs.0)
@@ -177,50 +177,50 @@ module _ (ms : List Mark) (ps : List Param) (φ : callee.Clause (core ∷ []) (f
         (runs C Λ E (code ms τs f) (at_ret E (Post ps u8 𝓤 ψ 𝓛 κs qs a)))
     runs_on =
         -- the borrow is opened, and the core copied out
-        opens ! tt T.the_row {h = h} b o (λ ws. unit-spelt ! full_share h ws b o (λ g.
-        use1 𝓛 (‵ (fat full_share T'.mir b o (valT h))) (𝓛.laws.raw_at full_share T'.mir b o (valT h)) $ move ! (1 ∷ []) $ drop ! $
+        opens ! tt T.the_row {h = h} b o (λ ws. unit_spelt ! full_share h ws b o (λ g.
+        use1 𝓛 (‵ (fat full_share T'.mir b o (val_t h))) (𝓛.laws.raw_at full_share T'.mir b o (val_t h)) $ move ! (1 ∷ []) $ drop ! $
         -- [the unit's cell; the open borrow; obs; auth; the tokens; what the parameters own; their row at 6; room for the references; the reference at 8; …; the
         -- test at 10; …; the core at 12; …; the outcome at 14; …; the result at 16; …]
-        assigns ! (of_opd ! (load ! (from ! (hop ! (look ! 8 refl) (fld ! refl (stop !)))) (core-read ! full_share h.core (arraysOf h) b o))) (found ! at-core (stop !)) (init ! 12 refl
-        ((LL.lawful CO.the_type CO'.the_laws 𝓛).typed h.core _ (core-of h g)).0) $
+        assigns ! (of_opd ! (load ! (from ! (hop ! (look ! 8 refl) (fld ! refl (stop !)))) (core_read ! full_share h.core (arrays_of h) b o))) (found ! at_core (stop !)) (init ! 12 refl
+        ((LL.lawful CO.the_type CO'.the_laws 𝓛).typed h.core _ (core_of h g)).0) $
         -- the addresses are taken, and the call
-        move ! (0 ∷ 4 ∷ 5 ∷ 7 ∷ 8 ∷ 6 ∷ []) $ lends-on ms (core ∷ []) ps S.the_row φ 𝓛 κs qs.1 a.1 typed b o (h.core, tt) ! fm met full_share (all-of-the-whole (fs ms)) (core-of h g, tt) h g
-        reference l₁ refl bs at_row (the-refs ms τs) cs at-refs (λ os. copy (place (the-core ms τs) []) ∷ os)
-        (λ i₁ i₂ i₃ i₄ i₅ i₆ i₇ i₈ os ws others. and_then ! (load ! (found ! at-core (stop !)) (look ! 14 refl)) others) (λ v r zs e is gs.
+        move ! (0 ∷ 4 ∷ 5 ∷ 7 ∷ 8 ∷ 6 ∷ []) $ lends_on ms (core ∷ []) ps S.the_row φ 𝓛 κs qs.1 a.1 typed b o (h.core, tt) ! fm met full_share (all_of_the_whole (fs ms)) (core_of h g, tt) h g
+        reference l₁ refl bs at_row (the_refs ms τs) cs at_refs (λ os. copy (place (the_core ms τs) []) ∷ os)
+        (λ i₁ i₂ i₃ i₄ i₅ i₆ i₇ i₈ os ws others. and_then ! (load ! (found ! at_core (stop !)) (look ! 14 refl)) others) (λ v r zs e is gs.
         -- the outcome lands, and is spelt out
-        land ! (found ! at-outcome (stop !)) (init ! 15 refl ((LL.lawful S.the_type S'.the_laws 𝓛).typed r _ is).0) $
+        land ! (found ! at_outcome (stop !)) (init ! 15 refl ((LL.lawful S.the_type S'.the_laws 𝓛).typed r _ is).0) $
         rewrite ! 15 (λ (u : Val). ‵ (fat full_share S'.mir lₛ 0 u)) (ap only (LL.tells S.the_type S'.the_laws r (v ∷ []) is)) refl $ drop ! $
         -- [the unit's cell; the tokens; what is had; the references; the reference at 4; the row; the open borrow; obs; auth; …; the test at 10; …; the outcome at
         -- 14; …; the result at 16; …]
-        assigns ! (bin ! (load ! (found ! at-outcome (fld ! refl (stop !))) (look_in ! 14 (sub ! 0 refl (whole !)))) (lit ! tt) tt)
+        assigns ! (bin ! (load ! (found ! at_outcome (fld ! refl (stop !))) (look_in ! 14 (sub ! 0 refl (whole !)))) (lit ! tt) tt)
         (found ! at_test (stop !)) (init ! 10 refl (tt, tt)) $
         -- the new core is stored if the number is 0; if it is not, the new core is the old one
-        stores-if ! (load ! (found ! at_test (stop !)) (look ! 10 refl))
-        (λ zero. assigns ! (of_opd ! (load ! (found ! at-outcome (fld ! refl (stop !))) (look_in ! 14 (sub ! 1 refl (whole !)))))
-        (from ! (hop ! (look ! 4 refl) (fld ! refl (stop !)))) (core-stored ! h.core r.core (arrays-after ms h zs) b o (core_is r v is)))
-        (λ some. rewrite ! 0 (λ (w : Core). ‵ (fat full_share T'.mir b o (valT (with ms h w zs))))
-        (sym (ap (λ (w : State). w.core) (left h (x ps u8 𝓤 ψ 𝓛 κs qs a) r.refusal (with ms h r.core zs) (tells h (x ps u8 𝓤 ψ 𝓛 κs qs a) r zs e) (not-0 r.refusal some)))) refl) $
-        assigns ! (of_opd ! (load ! (found ! at-outcome (fld ! refl (stop !))) (look_in ! 14 (sub ! 0 refl (whole !))))) (from ! (stop !)) (init ! 16 refl
-        (tt, record { fits = refusal-fits r v is })) $
+        stores_if ! (load ! (found ! at_test (stop !)) (look ! 10 refl))
+        (λ zero. assigns ! (of_opd ! (load ! (found ! at_outcome (fld ! refl (stop !))) (look_in ! 14 (sub ! 1 refl (whole !)))))
+        (from ! (hop ! (look ! 4 refl) (fld ! refl (stop !)))) (core_stored ! h.core r.core (arrays_after ms h zs) b o (core_is r v is)))
+        (λ some. rewrite ! 0 (λ (w : Core). ‵ (fat full_share T'.mir b o (val_t (with ms h w zs))))
+        (sym (ap (λ (w : State). w.core) (left h (x ps u8 𝓤 ψ 𝓛 κs qs a) r.refusal (with ms h r.core zs) (tells h (x ps u8 𝓤 ψ 𝓛 κs qs a) r zs e) (not_0 r.refusal some)))) refl) $
+        assigns ! (of_opd ! (load ! (found ! at_outcome (fld ! refl (stop !))) (look_in ! 14 (sub ! 0 refl (whole !))))) (from ! (stop !)) (init ! 16 refl
+        (tt, record { fits = refusal_fits r v is })) $
         -- the borrow is closed at the new unit
-        use1 𝓛 (‵ (cell_at full_share (T.the_row).mir (valT (with ms h r.core zs) ∷ []) b o)) (𝓛.laws.at_raw full_share T'.mir b o (valT (with ms h r.core zs))) $
+        use1 𝓛 (‵ (cell_at full_share (T.the_row).mir (val_t (with ms h r.core zs) ∷ []) b o)) (𝓛.laws.at_raw full_share T'.mir b o (val_t (with ms h r.core zs))) $
         owned ! T.the_row (Is T.the_row) (LL.makes T.the_type T'.the_plain 𝓛) (with ms h r.core zs) _
-        (made r.core (arrays-after ms h zs) (core_is r v is) gs) $
-        move ! (1 ∷ 0 ∷ 7 ∷ 8 ∷ 9 ∷ []) $ closes ! tt T.the_row (with ms h r.core zs) (valT (with ms h r.core zs) ∷ []) b o $
+        (made r.core (arrays_after ms h zs) (core_is r v is) gs) $
+        move ! (1 ∷ 0 ∷ 7 ∷ 8 ∷ 9 ∷ []) $ closes ! tt T.the_row (with ms h r.core zs) (val_t (with ms h r.core zs) ∷ []) b o $
         -- [obs; the borrow; the token; the tokens; what is had; the references; the reference at 6; the row at 7; …; the test at 9; …; the core at 11; …; the
         -- outcome at 13; …; the result at 15; …]
         returns ! (look ! 15 refl) $ forget ! 15 refl $ move ! (15 ∷ 16 ∷ []) $ free1 ! $ forget ! 6 refl $ move ! (6 ∷ 8 ∷ []) $ free1 ! $
-        move ! (6 ∷ []) $ free-row ! τs vs bs E₁ typed $ forget ! 10 refl $ move ! (10 ∷ 11 ∷ []) $ free1 ! $ forget ! 8 refl $ move ! (8 ∷ 9 ∷ []) $ free1 ! $
-        move ! (5 ∷ []) $ free-row ! ρs us cs E₂ (pointers-typed (fs ms) b (at ms o)) $ forget ! 5 refl $ move ! (5 ∷ 6 ∷ []) $ free1 ! $ free0 ! $
-        owned ! u8 (Is u8) (uint_Makes 𝓛 w8) r.refusal _ (refl, refusal-fits r v is) $ move ! (1 ∷ 2 ∷ 3 ∷ 4 ∷ 5 ∷ 0 ∷ []) $
+        move ! (6 ∷ []) $ free_row ! τs vs bs E₁ typed $ forget ! 10 refl $ move ! (10 ∷ 11 ∷ []) $ free1 ! $ forget ! 8 refl $ move ! (8 ∷ 9 ∷ []) $ free1 ! $
+        move ! (5 ∷ []) $ free_row ! ρs us cs E₂ (pointers_typed (fs ms) b (at ms o)) $ forget ! 5 refl $ move ! (5 ∷ 6 ∷ []) $ free1 ! $ free0 ! $
+        owned ! u8 (Is u8) (uint_Makes 𝓛 w8) r.refusal _ (refl, refusal_fits r v is) $ move ! (1 ∷ 2 ∷ 3 ∷ 4 ∷ 5 ∷ 0 ∷ []) $
         by ! (ends ps u8 𝓤 ψ 𝓛 κs qs a (with ms h r.core zs) r.refusal (vint w8 r.refusal) (tells h (x ps u8 𝓤 ψ 𝓛 κs qs a) r zs e)))))
 
   walk : ent 𝓤 (⋆ 𝓛 (begun ps u8 𝓤 ψ 𝓛 κs qs a)) (Runs ps u8 𝓤 ψ 𝓛 κs qs a C Λ (stored ms τs (suc (lifetimes ps)) f))
   walk =
       qed 𝓛 (begun ps u8 𝓤 ψ 𝓛 κs qs a) ∵ enter ! C Λ (stored ms τs (suc (lifetimes ps)) f) (vptr b o ∷ vs) (Post ps u8 𝓤 ψ 𝓛 κs qs a) $
-      alloc1 ! (λ l₀. alloc1 ! (λ l₁. alloc-row ! τs (λ bs. alloc1 ! (λ lₛ. alloc1 ! (λ lₖ. alloc-row ! ρs (λ cs. alloc1 ! (λ lₜ. alloc0 ! $ params1 ! $
+      alloc1 ! (λ l₀. alloc1 ! (λ l₁. alloc_row ! τs (λ bs. alloc1 ! (λ lₛ. alloc1 ! (λ lₖ. alloc_row ! ρs (λ cs. alloc1 ! (λ lₜ. alloc0 ! $ params1 ! $
       -- [the test; …; room for the references at 2; the core at 3; …; the outcome at 5; …; room for the row at 7; the reference at 8; …; the result at 10; …]
-      pass1 ! (init ! 8 refl (tt, tt)) $ move ! (7 ∷ []) $ pass-row ! τs vs bs (E₁ l₀ l₁ lₛ lₖ lₜ bs cs) typed $
+      pass1 ! (init ! 8 refl (tt, tt)) $ move ! (7 ∷ []) $ pass_row ! τs vs bs (E₁ l₀ l₁ lₛ lₖ lₜ bs cs) typed $
       move ! (13 ∷ []) $ fsplit3 ! $ drop ! $ move ! (0 ∷ 1 ∷ 14 ∷ 15 ∷ 16 ∷ 2 ∷ 5 ∷ 10 ∷ 11 ∷ 3 ∷ 4 ∷ 6 ∷ 7 ∷ 8 ∷ 9 ∷ 12 ∷ 13 ∷ []) $
       runs_on l₀ l₁ lₛ lₖ lₜ bs cs)))))))
 

@@ -27,7 +27,7 @@ use denote.Triple.Walked.{Stays, AllGo, Walks, walk_Meets}
 use Rattle.state.specs.declared.Unit.{Unit as State}
 use Rattle.state.specs.contracts.Unit as T
 use Rattle.state.proofs.Unit.TheLaws as T'
-use Rattle.host.proofs.Lent.{valT}
+use Rattle.host.proofs.Lent.{val_t}
 
 pub thin : {M : Type 1} {𝓤 : Ura M} (𝓛 : Logic 𝓤) (𝓜 : Model 𝓤 𝓛.H) (𝓡 : Running 𝓤 𝓛.H 𝓜) (γ : Env)
     (T : Ended) (hs : Stays T.signature.params T.kept) (c : Clauses 𝓤 T) (function : Fn) (self callee : Name) (r : Routine) (known : Contract 𝓤)
@@ -48,9 +48,9 @@ module _ {M : Type 1} {𝓤 : Ura M} {𝓛 : Logic 𝓤} {K : Type 0} {Γ : List
   -- once a borrow is opened or looked into: the unit in memory is its machine value
   open 𝓛 use {H}
 
-  pub unit-spelt : K → {G : Goal 𝓤 H} (q : Share) (h : State) (vs : List Val) (b o : ℕ)
-      → (Is T.the_row h (valT h ∷ []) → Seq K 𝓛 (‵ (cell_at q (T.the_row).mir (valT h ∷ []) b o) ∷ ‵ ((T.the_row).own_val h (valT h ∷ [])) ∷ Γ) G)
+  pub unit_spelt : K → {G : Goal 𝓤 H} (q : Share) (h : State) (vs : List Val) (b o : ℕ)
+      → (Is T.the_row h (val_t h ∷ []) → Seq K 𝓛 (‵ (cell_at q (T.the_row).mir (val_t h ∷ []) b o) ∷ ‵ ((T.the_row).own_val h (val_t h ∷ [])) ∷ Γ) G)
       → Seq K 𝓛 (‵ (cell_at q (T.the_row).mir vs b o) ∷ ‵ ((T.the_row).own_val h vs) ∷ Γ) G
-  unit-spelt t q h vs b o k =
+  unit_spelt t q h vs b o k =
       spelt t T.the_row (Is T.the_row) (shows 𝓛 T.the_row) (LL.vals T.the_type T'.the_laws) (LL.tells T.the_type T'.the_laws) q h vs b o $
-      move t (1 ∷ []) $ peeks t T.the_row (Is T.the_row) (shows 𝓛 T.the_row) h (valT h ∷ []) (λ g. move t (1 ∷ 0 ∷ []) $ k g)
+      move t (1 ∷ []) $ peeks t T.the_row (Is T.the_row) (shows 𝓛 T.the_row) h (val_t h ∷ []) (λ g. move t (1 ∷ 0 ∷ []) $ k g)

@@ -1,8 +1,8 @@
 // The unit's state lent by the host (document 01: "The host owns the unit's state and lends it for each event; the event updates it and touches nothing
 // else"). Eight functions are exported to C and Rust. Each lends the arrays of the unit on, where they lie, to the function that does the work; a new core is
 // stored only if the number is 0.
-ghost use Rattle.rules.specs.Events.{setBucket, assignBucket, setWeek, setWindows};
-ghost use Rattle.rules.specs.Week.{firstWindows};
+ghost use Rattle.rules.specs.Events.{set_bucket, assign_bucket, set_week, set_windows};
+ghost use Rattle.rules.specs.Week.{first_windows};
 ghost use Rattle.rules.specs.Loading.{loading};
 ghost use Rattle.rules.specs.Sheet as sheet;
 ghost use Rattle.rules.specs.Sheet.{fields};
@@ -108,7 +108,7 @@ pub extern "C" fn unit_set_bucket(
     clear_level: u8,
     decay: u8,
 ) -> u8
-    ensures { Leads u.old (given (sheet.event (setBucket set size set_level clear_level decay))) result u.new }
+    ensures { Leads u.old (given (sheet.event (set_bucket set size set_level clear_level decay))) result u.new }
 {
     calls::set_bucket(
         &mut u.monitors.level,
@@ -128,7 +128,7 @@ pub extern "C" fn unit_set_bucket(
 // Not: input and set in each other's place; set 0's size for every set; the input not put at size.
 #[unsafe(no_mangle)]
 pub extern "C" fn unit_assign_bucket(u: &mut Unit, input: u8, set: u8) -> u8
-    ensures { Leads u.old (given (sheet.event (assignBucket input set))) result u.new }
+    ensures { Leads u.old (given (sheet.event (assign_bucket input set))) result u.new }
 {
     calls::assign_bucket(
         &mut u.monitors.level,
@@ -145,7 +145,7 @@ pub extern "C" fn unit_assign_bucket(u: &mut Unit, input: u8, set: u8) -> u8
 // Not: 4,725,000 let through; the windows cleared.
 #[unsafe(no_mangle)]
 pub extern "C" fn unit_set_week(u: &mut Unit, place: u32) -> u8
-    ensures { Leads u.old (given (sheet.event (setWeek place))) result u.new }
+    ensures { Leads u.old (given (sheet.event (set_week place))) result u.new }
 {
     let placed = calls::set_week(u.core, place);
     if placed.refusal == 0 {
@@ -158,7 +158,7 @@ pub extern "C" fn unit_set_week(u: &mut Unit, place: u32) -> u8
 // Not: nine windows let through; all sixteen numbers stored; the place reset; a refusal stored.
 #[unsafe(no_mangle)]
 pub extern "C" fn unit_set_windows(u: &mut Unit, count: u8, windows: &Windows) -> u8
-    ensures { Leads u.old (given (sheet.event (setWindows (firstWindows count windows.now)))) result u.new }
+    ensures { Leads u.old (given (sheet.event (set_windows (first_windows count windows.now)))) result u.new }
 {
     calls::set_windows(&mut u.windows, count, windows)
 }

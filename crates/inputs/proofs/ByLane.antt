@@ -8,51 +8,51 @@ use lib.Dec.{eqb}
 use lib.ListN.{length, get_or, set, length-set}
 use lib.Seq.{ext_get_or, get_or-set_same, get_or-set_other}
 use borrow.Author.Tests.{eqb-true, eqb-false}
-use Rattle.rules.specs.Words.{if◌then◌else◌, isInput}
-use Rattle.rules.specs.Monitors.{Input, fullSoak, qualified, atSize, freshInput}
+use Rattle.rules.specs.Words.{if◌then◌else◌, is_input}
+use Rattle.rules.specs.Monitors.{Input, full_soak, qualified, at_size, fresh_input}
 use Rattle.rules.specs.Inputs.{input, altered}
-use Rattle.rules.proofs.Tests.{by-test, is-between}
+use Rattle.rules.proofs.Tests.{by_test, is_between}
 use Rattle.buckets.specs.Bridge.{eight}
-use Rattle.inputs.specs.Bridge.{is_set, input_at, inputsOf}
+use Rattle.inputs.specs.Bridge.{is_set, input_at, inputs_of}
 use Rattle.inputs.specs.declared.Monitors.{Monitors}
 
 -- ---- an input read
 
 -- one of eight values
-pub eight-at : {A : Type 0} (f : ℕ → A) (d : A) (j : ℕ) → j < 8 → get_or (eight f) j d ≡ f j
-eight-at f d zero h = refl
-eight-at f d (suc zero) h = refl
-eight-at f d (suc (suc zero)) h = refl
-eight-at f d (suc (suc (suc zero))) h = refl
-eight-at f d (suc (suc (suc (suc zero)))) h = refl
-eight-at f d (suc (suc (suc (suc (suc zero))))) h = refl
-eight-at f d (suc (suc (suc (suc (suc (suc zero)))))) h = refl
-eight-at f d (suc (suc (suc (suc (suc (suc (suc zero))))))) h = refl
-eight-at f d (suc (suc (suc (suc (suc (suc (suc (suc j)))))))) h = absurd (omega arith)
+pub eight_at : {A : Type 0} (f : ℕ → A) (d : A) (j : ℕ) → j < 8 → get_or (eight f) j d ≡ f j
+eight_at f d zero h = refl
+eight_at f d (suc zero) h = refl
+eight_at f d (suc (suc zero)) h = refl
+eight_at f d (suc (suc (suc zero))) h = refl
+eight_at f d (suc (suc (suc (suc zero)))) h = refl
+eight_at f d (suc (suc (suc (suc (suc zero))))) h = refl
+eight_at f d (suc (suc (suc (suc (suc (suc zero)))))) h = refl
+eight_at f d (suc (suc (suc (suc (suc (suc (suc zero))))))) h = refl
+eight_at f d (suc (suc (suc (suc (suc (suc (suc (suc j)))))))) h = absurd (omega arith)
 
 -- the input in a lane
-pub input-at : (m : Monitors) (k : ℕ) → k < 8 → get_or (inputsOf m) k freshInput ≡ input_at m k
-unfolding inputsOf
-input-at m k h = eight-at (input_at m) freshInput k h
+pub input_at : (m : Monitors) (k : ℕ) → k < 8 → get_or (inputs_of m) k fresh_input ≡ input_at m k
+unfolding inputs_of
+input_at m k h = eight_at (input_at m) fresh_input k h
 
 -- input c is qualified by the soak in its lane
-pub qualified-lane : (m : Monitors) (c k : ℕ) → 1 ≤ c → c ≤ 8 → k ≡ c - 1
-    → eqb (get_or m.soak k 0) fullSoak ≡ (isInput c && qualified (input (inputsOf m) c))
+pub qualified_lane : (m : Monitors) (c k : ℕ) → 1 ≤ c → c ≤ 8 → k ≡ c - 1
+    → eqb (get_or m.soak k 0) full_soak ≡ (is_input c && qualified (input (inputs_of m) c))
 unfolding qualified
-qualified-lane m c k lo hi e = rw (is-between 1 8 c lo hi, ← e) (ap qualified (sym (input-at m k (omega arith))))
+qualified_lane m c k lo hi e = rw (is_between 1 8 c lo hi, ← e) (ap qualified (sym (input_at m k (omega arith))))
 
 -- ---- an input altered
 
 -- eight values with one replaced
-eight-set : {A : Type 0} (f g : ℕ → A) (k : ℕ) (v : A) → (k < 8 → g k ≡ v) → ((j : ℕ) → (j ≡ k → ⊥) → g j ≡ f j) → eight g ≡ set (eight f) k v
-eight-set f g k v same other =
-    ext_get_or v (eight g) (set (eight f) k v) (sym (length-set (eight f) k v)) (λ j h. eight-at g v j h ∙ sym (at j h))
+eight_set : {A : Type 0} (f g : ℕ → A) (k : ℕ) (v : A) → (k < 8 → g k ≡ v) → ((j : ℕ) → (j ≡ k → ⊥) → g j ≡ f j) → eight g ≡ set (eight f) k v
+eight_set f g k v same other =
+    ext_get_or v (eight g) (set (eight f) k v) (sym (length-set (eight f) k v)) (λ j h. eight_at g v j h ∙ sym (at j h))
   where
     at : (j : ℕ) → j < 8 → get_or (set (eight f) k v) j v ≡ g j
     at j h =
-        by-test (eqb j k)
+        by_test (eqb j k)
         (λ e. rw (eqb-true j k e) (get_or-set_same (eight f) k v v (omega (arith, eqb-true j k e)) ∙ sym (same (omega (arith, eqb-true j k e)))))
-        (λ e. get_or-set_other (eight f) k j v v (eqb-false j k e) ∙ eight-at f v j h ∙ sym (other j (eqb-false j k e)))
+        (λ e. get_or-set_other (eight f) k j v v (eqb-false j k e) ∙ eight_at f v j h ∙ sym (other j (eqb-false j k e)))
 
 pub same_at : (l : List ℕ) (k v : ℕ) → length l ≡ 8 → k < 8 → get_or (set l k v) k 0 ≡ v
 same_at l k v e h = get_or-set_same l k v 0 (omega arith)
@@ -62,13 +62,13 @@ abbrev pub alarmed : Input → Bool → ℕ → ℕ → Input
 alarmed x frequency remainder soak = record { activity = x.activity; frequency = frequency; remainder = remainder; soak = soak }
 
 -- input i altered: the numbers in its lane are those of the altered input, and the others stay
-pub altered-lane : (f : Input → Input) (m r : Monitors) (i : ℕ) {k : ℕ} → k ≡ i - 1
+pub altered_lane : (f : Input → Input) (m r : Monitors) (i : ℕ) {k : ℕ} → k ≡ i - 1
     → (k < 8 → input_at r k ≡ f (input_at m k)) → ((j : ℕ) → (j ≡ k → ⊥) → input_at r j ≡ input_at m j)
-    → inputsOf r ≡ altered f i (inputsOf m)
-unfolding altered inputsOf
-altered-lane f m r i {k} e same other =
-    eight-set (input_at m) (input_at r) k (f (get_or (inputsOf m) k freshInput))
-    (λ h. same h ∙ ap f (sym (input-at m k h))) other
+    → inputs_of r ≡ altered f i (inputs_of m)
+unfolding altered inputs_of
+altered_lane f m r i {k} e same other =
+    eight_set (input_at m) (input_at r) k (f (get_or (inputs_of m) k fresh_input))
+    (λ h. same h ∙ ap f (sym (input_at m k h))) other
     ∙ rw e
 
 -- ---- an input put at its size
@@ -88,7 +88,7 @@ pub put_lane : (t : Bool) (size level decay activity : ℕ) (frequency : Bool) (
       remainder = remainder;
       soak = soak;
     } in
-    if t then atSize size x else x)
-unfolding atSize
+    if t then at_size size x else x)
+unfolding at_size
 put_lane true size level decay activity frequency remainder soak = refl
 put_lane false size level decay activity frequency remainder soak = refl

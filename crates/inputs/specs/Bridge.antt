@@ -22,29 +22,29 @@ input_at m k =
     }
 
 -- the rules' eight inputs that the rows hold
-unfoldable pub inputsOf : Monitors → Inputs
-inputsOf m = eight (input_at m)
+unfoldable pub inputs_of : Monitors → Inputs
+inputs_of m = eight (input_at m)
 
 -- ---- some of the rows replaced
 
 -- other levels, decay counts and activity alarms
-abbrev pub withActivity : Monitors → List ℕ → List ℕ → List ℕ → Monitors
-withActivity m level decay activity =
+abbrev pub with_activity : Monitors → List ℕ → List ℕ → List ℕ → Monitors
+with_activity m level decay activity =
     record { level = level; decay = decay; activity = activity; frequency = m.frequency; remainder = m.remainder; soak = m.soak }
 
 -- other frequency alarms, remainders and soaks
-abbrev pub withAlarms : Monitors → List ℕ → List ℕ → List ℕ → Monitors
-withAlarms m frequency remainder soak =
+abbrev pub with_alarms : Monitors → List ℕ → List ℕ → List ℕ → Monitors
+with_alarms m frequency remainder soak =
     record { level = m.level; decay = m.decay; activity = m.activity; frequency = frequency; remainder = remainder; soak = soak }
 
-abbrev pub withFrequency : Monitors → List ℕ → Monitors
-withFrequency m frequency = withAlarms m frequency m.remainder m.soak
+abbrev pub with_frequency : Monitors → List ℕ → Monitors
+with_frequency m frequency = with_alarms m frequency m.remainder m.soak
 
-abbrev pub withLockAlarms : Monitors → List ℕ → List ℕ → Monitors
-withLockAlarms m remainder soak = withAlarms m m.frequency remainder soak
+abbrev pub with_lock_alarms : Monitors → List ℕ → List ℕ → Monitors
+with_lock_alarms m remainder soak = with_alarms m m.frequency remainder soak
 
-abbrev pub withSoak : Monitors → List ℕ → Monitors
-withSoak m soak = withAlarms m m.frequency m.remainder soak
+abbrev pub with_soak : Monitors → List ℕ → Monitors
+with_soak m soak = with_alarms m m.frequency m.remainder soak
 
 -- ---- rows that are lent
 

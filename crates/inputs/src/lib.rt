@@ -3,13 +3,13 @@
 // Each number has a row of eight, input 1 first. A function is lent the rows that it needs, and its contract holds whatever the others are.
 ghost use Rattle.std.specs.Prelude.{◌≡◌, ◌-◌, ◌&&◌, nat_abs, length, replicate};
 ghost use Rattle.std.proofs.Math.ListN as ListN;
-ghost use Rattle.rules.specs.Words.{if◌then◌else◌, isInput};
-ghost use Rattle.rules.specs.Monitors.{qualified, unsoaked, lockAlarmed, frequencyAfter, measured, freshInput};
+ghost use Rattle.rules.specs.Words.{if◌then◌else◌, is_input};
+ghost use Rattle.rules.specs.Monitors.{qualified, unsoaked, lock_alarmed, frequency_after, measured, fresh_input};
 ghost use Rattle.rules.specs.Inputs.{input, altered};
-ghost use Rattle.rules.specs.Buckets.{putAtSize};
+ghost use Rattle.rules.specs.Buckets.{put_at_size};
 ghost use Rattle.buckets.specs.Bridge.{eight};
-ghost use Rattle.rules.specs.Reading.{qualifiedMask};
-ghost use Rattle.inputs.specs.Bridge.{is_set, inputsOf, withActivity, withFrequency, withLockAlarms, withSoak};
+ghost use Rattle.rules.specs.Reading.{qualified_mask};
+ghost use Rattle.inputs.specs.Bridge.{is_set, inputs_of, with_activity, with_frequency, with_lock_alarms, with_soak};
 ghost use Rattle.inputs.specs.declared.Monitors as stored;
 
 use arith::{either, mask_of, wide32};
@@ -37,7 +37,7 @@ pub struct Monitors {
 // "Fresh: all counts 0, activity alarms clear, frequency alarms set"
 // Not: frequency alarms clear; a soak of 79.
 pub fn fresh_monitors() -> Monitors
-    ensures { inputsOf result ≡ replicate 8 freshInput }
+    ensures { inputs_of result ≡ replicate 8 fresh_input }
 {
     Monitors {
         level: [0; 8],
@@ -61,9 +61,9 @@ fn magnitude(x: i16) -> u16
     x as u16
 }
 
-// The rule `frequencyAfter`.
+// The rule `frequency_after`.
 fn frequency_of(reject: u16, limit: u16, magnitude: u16, frequency: u16) -> u16
-    ensures { is_set result ≡ frequencyAfter reject limit magnitude (is_set frequency) }
+    ensures { is_set result ≡ frequency_after reject limit magnitude (is_set frequency) }
 {
     either(
         reject < magnitude,
@@ -112,7 +112,7 @@ fn number_at(row: &Row, k: usize) -> u16
 // A measurement of input i: `measured`. Offset and limits are in one unit.
 // Not: an offset at a limit counts as above it; the alarm of another input.
 pub fn measure(frequency: &mut Row, i: u8, offset: i16, reject: u16, limit: u16)
-    ensures { (m : stored.Monitors) → inputsOf (withFrequency m frequency.new) ≡ altered (measured reject limit offset) i (inputsOf (withFrequency m frequency.old)) }
+    ensures { (m : stored.Monitors) → inputs_of (with_frequency m frequency.new) ≡ altered (measured reject limit offset) i (inputs_of (with_frequency m frequency.old)) }
 {
     let k = lane(wide32(i));
     let old = number_at(frequency, k);
@@ -120,10 +120,10 @@ pub fn measure(frequency: &mut Row, i: u8, offset: i16, reject: u16, limit: u16)
     put(frequency, k, new);
 }
 
-// The lock alarm of input i: `lockAlarmed`.
+// The lock alarm of input i: `lock_alarmed`.
 // Not: 783 ticks; the soak left.
 pub fn alarm(remainder: &mut Row, soak: &mut Row, i: u32)
-    ensures { (m : stored.Monitors) → inputsOf (withLockAlarms m remainder.new soak.new) ≡ altered lockAlarmed i (inputsOf (withLockAlarms m remainder.old soak.old)) }
+    ensures { (m : stored.Monitors) → inputs_of (with_lock_alarms m remainder.new soak.new) ≡ altered lock_alarmed i (inputs_of (with_lock_alarms m remainder.old soak.old)) }
 {
     let k = lane(i);
     put(remainder, k, ALARM_TICKS);
@@ -133,7 +133,7 @@ pub fn alarm(remainder: &mut Row, soak: &mut Row, i: u32)
 // The soak of input i at 0: `unsoaked`.
 // Not: a soak of 1; another input's soak.
 pub fn unsoak(soak: &mut Row, i: u32)
-    ensures { (m : stored.Monitors) → inputsOf (withSoak m soak.new) ≡ altered unsoaked i (inputsOf (withSoak m soak.old)) }
+    ensures { (m : stored.Monitors) → inputs_of (with_soak m soak.new) ≡ altered unsoaked i (inputs_of (with_soak m soak.old)) }
 {
     let k = lane(i);
     put(soak, k, 0);
@@ -157,10 +157,10 @@ fn replaced(concerned: Row, v: u16, row: Row) -> Row
     ]
 }
 
-// The rule `putAtSize`, where the rows lie: of the concerned inputs the level is the size, the decay count 0, and the activity alarm set.
+// The rule `put_at_size`, where the rows lie: of the concerned inputs the level is the size, the decay count 0, and the activity alarm set.
 // Not: the decay count kept; every input put at size.
 pub fn put_at_size(level: &mut Row, decay: &mut Row, activity: &mut Row, concerned: Row, size: u16)
-    ensures { (m : stored.Monitors) → inputsOf (withActivity m level.new decay.new activity.new) ≡ putAtSize (λ i. is_set (ListN.get_or concerned (i - 1) 0)) size (inputsOf (withActivity m level.old decay.old activity.old)) }
+    ensures { (m : stored.Monitors) → inputs_of (with_activity m level.new decay.new activity.new) ≡ put_at_size (λ i. is_set (ListN.get_or concerned (i - 1) 0)) size (inputs_of (with_activity m level.old decay.old activity.old)) }
 {
     let l = *level;
     let d = *decay;
@@ -178,7 +178,7 @@ pub fn put_at_size(level: &mut Row, decay: &mut Row, activity: &mut Row, concern
 // The mask of the qualified inputs, as 0x46 shows it.
 // Not: bit 6 by input 6; qualified at a soak of 78.
 pub fn qualified_mask(soak: &Row) -> u8
-    ensures { (m : stored.Monitors) → result ≡ qualifiedMask (inputsOf (withSoak m soak.now)) }
+    ensures { (m : stored.Monitors) → result ≡ qualified_mask (inputs_of (with_soak m soak.now)) }
 {
     let s = *soak;
     mask_of(
@@ -196,7 +196,7 @@ pub fn qualified_mask(soak: &Row) -> u8
 // Whether c is the number of an input that is qualified.
 // Not: 9 taken for an input; qualified at a soak of 78.
 pub fn qualified_at(soak: &Row, c: u32) -> bool
-    ensures { (m : stored.Monitors) → result ≡ (isInput c && qualified (input (inputsOf (withSoak m soak.now)) c)) }
+    ensures { (m : stored.Monitors) → result ≡ (is_input c && qualified (input (inputs_of (with_soak m soak.now)) c)) }
 {
     if c < 1 {
         return false;

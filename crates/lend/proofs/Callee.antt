@@ -28,27 +28,27 @@ use denote.Exit.{yes}
 use Rattle.lend.proofs.Copied as small
 use Rattle.lend.proofs.Copied.{Small, Values, copied, Are}
 use Rattle.lend.proofs.Loans as loan
-use Rattle.lend.proofs.Loans.{Loan, Lists, Sounds, AllFit, Offsets, Names, count, lfts, shares, others, others-are, pointers, cells, tokens, lenders, Changes, after, changes, lends-all, backs-all}
-use Rattle.lend.proofs.Params.{Param, lifetimes, Data, values, Picks, slots, Types, data_of, args_of, data-args, lists, in_a_row, Owned, Had, handed-on, same-owned}
+use Rattle.lend.proofs.Loans.{Loan, Lists, Sounds, AllFit, Offsets, Names, count, lfts, shares, others, others_are, pointers, cells, tokens, lenders, Changes, after, changes, lends_all, backs_all}
+use Rattle.lend.proofs.Params.{Param, lifetimes, Data, values, Picks, slots, Types, data_of, args_of, data_args, lists, in_a_row, Owned, Had, handed_on, same_owned}
 
 module _ (cs : List Small) (fs : List Loan) (ps : List Param) (R : RattleType) where
   -- the lifetimes: one for each loan, then those of the other parameters
-  abbrev all-lfts : ℕ
-  all-lfts = count fs (lifetimes ps)
+  abbrev all_lfts : ℕ
+  all_lfts = count fs (lifetimes ps)
 
-  abbrev its : Picks all-lfts ps
+  abbrev its : Picks all_lfts ps
   its κs = others fs (lifetimes ps) κs
 
-  abbrev given-slots : List (Slot all-lfts)
-  given-slots = slots all-lfts ps (count fs zero) its
+  abbrev given_slots : List (Slot all_lfts)
+  given_slots = slots all_lfts ps (count fs zero) its
 
-  abbrev lent-slots : List (Slot all-lfts)
-  lent-slots = loan.slots-on all-lfts (lifetimes ps) fs zero (λ κs. κs) given-slots
+  abbrev lent_slots : List (Slot all_lfts)
+  lent_slots = loan.slots_on all_lfts (lifetimes ps) fs zero (λ κs. κs) given_slots
 
   abbrev lending : Ended
   lending = record {
-    signature = record { lifetimes = all-lfts; outlives = []; params = small.slots-on all-lfts cs lent-slots; result = plain (λ _. R) };
-    kept = all yes (small.slots-on all-lfts cs lent-slots);
+    signature = record { lifetimes = all_lfts; outlives = []; params = small.slots_on all_lfts cs lent_slots; result = plain (λ _. R) };
+    kept = all yes (small.slots_on all_lfts cs lent_slots);
   }
 
   -- what a contract says: of the small values, the lists on entry, the data, the result, and the lists at exit
@@ -58,13 +58,13 @@ module _ (cs : List Small) (fs : List Loan) (ps : List Param) (R : RattleType) w
   module _ {M : Type 1} (𝓤 : Ura M) (φ : Clause) where
     abbrev says : Clauses 𝓤 lending
     says κs a =
-        let rest = small.after-args all-lfts lent-slots κs cs a in
+        let rest = small.after_args all_lfts lent_slots κs cs a in
         record {
           ghost = Unit {0};
           requires = λ _. emp 𝓤;
-          ensures = λ _ r end. fact 𝓤 (φ (small.values_of all-lfts lent-slots κs cs a) (loan.nows all-lfts (lifetimes ps) given-slots κs fs zero (λ μs. μs) rest)
-              (data_of all-lfts κs ps (count fs zero) its (loan.after-args all-lfts (lifetimes ps) given-slots κs fs zero (λ μs. μs) rest)) r
-              (loan.seens all-lfts (lifetimes ps) given-slots κs fs zero (λ μs. μs) (small.after-outs all-lfts lent-slots κs cs end)));
+          ensures = λ _ r end. fact 𝓤 (φ (small.values_of all_lfts lent_slots κs cs a) (loan.nows all_lfts (lifetimes ps) given_slots κs fs zero (λ μs. μs) rest)
+              (data_of all_lfts κs ps (count fs zero) its (loan.after_args all_lfts (lifetimes ps) given_slots κs fs zero (λ μs. μs) rest)) r
+              (loan.seens all_lfts (lifetimes ps) given_slots κs fs zero (λ μs. μs) (small.after_outs all_lfts lent_slots κs cs end)));
         }
 
     module _ (𝓛 : Logic 𝓤) where
@@ -84,14 +84,14 @@ module _ (cs : List Small) (fs : List Loan) (ps : List Param) (R : RattleType) w
         P = Owned (lifetimes ps) (pick₀ κs₀) ps zero (λ μs. μs) (args_of (lifetimes ps) (pick₀ κs₀) ps zero (λ μs. μs) x)
 
         module _ (ns : Names fs) where
-          abbrev κs : Lfts all-lfts
+          abbrev κs : Lfts all_lfts
           κs = lfts fs (lifetimes ps) ns (pick₀ κs₀)
 
-          abbrev given_args : Denots (types_at {n = all-lfts} given-slots κs)
-          given_args = args_of all-lfts κs ps (count fs zero) its x
+          abbrev given_args : Denots (types_at {n = all_lfts} given_slots κs)
+          given_args = args_of all_lfts κs ps (count fs zero) its x
 
-          abbrev lent-args : Denots (types_at {n = all-lfts} lent-slots κs)
-          lent-args = loan.args-on all-lfts (lifetimes ps) given-slots κs fs zero (λ μs. μs) ns b at ls given_args
+          abbrev lent_args : Denots (types_at {n = all_lfts} lent_slots κs)
+          lent_args = loan.args_on all_lfts (lifetimes ps) given_slots κs fs zero (λ μs. μs) ns b at ls given_args
 
           abbrev bound : Known.Ghost
           bound = (
@@ -99,100 +99,100 @@ module _ (cs : List Small) (fs : List Loan) (ps : List Param) (R : RattleType) w
               κs,
               shares fs (lifetimes ps) qs,
               tt,
-              small.args-on all-lfts lent-slots κs cs xs lent-args,
-              small.valss-on all-lfts lent-slots κs cs xs (loan.valss-on all-lfts (lifetimes ps) given-slots κs fs zero (λ μs. μs) b at
-                  (lists all-lfts κs ps (count fs zero) its given_args)),
+              small.args_on all_lfts lent_slots κs cs xs lent_args,
+              small.valss_on all_lfts lent_slots κs cs xs (loan.valss_on all_lfts (lifetimes ps) given_slots κs fs zero (λ μs. μs) b at
+                  (lists all_lfts κs ps (count fs zero) its given_args)),
             ),
             tt,
           )
 
           passed : Known.args bound ≡ copied cs xs (pointers fs b at (values ps x))
           passed =
-              small.flat_on all-lfts lent-slots κs cs xs _
-              ∙ ap (copied cs xs) (loan.flat_on all-lfts (lifetimes ps) given-slots κs fs zero (λ μs. μs) b at _
-              ∙ ap (pointers fs b at) (in_a_row all-lfts κs ps (count fs zero) its given_args ∙ ap (values ps) (data-args all-lfts κs ps (count fs zero) its x)))
+              small.flat_on all_lfts lent_slots κs cs xs _
+              ∙ ap (copied cs xs) (loan.flat_on all_lfts (lifetimes ps) given_slots κs fs zero (λ μs. μs) b at _
+              ∙ ap (pointers fs b at) (in_a_row all_lfts κs ps (count fs zero) its given_args ∙ ap (values ps) (data_args all_lfts κs ps (count fs zero) its x)))
 
-          toks-are : (gs : List Loan) (ms : Names gs)
+          toks_are : (gs : List Loan) (ms : Names gs)
               → mean 𝓛 (tokens gs ms (raw (toks 𝓛 (lifetimes ps) (pick₀ κs₀) qs)))
               ≡ toks 𝓛 (count gs (lifetimes ps)) (lfts gs (lifetimes ps) ms (pick₀ κs₀)) (shares gs (lifetimes ps) qs)
-          toks-are [] ms = refl
-          toks-are (g ∷ gs) ms = ap (sep 𝓤 (A.lft (ms.0.0 ∷ []) _)) (toks-are gs ms.1)
+          toks_are [] ms = refl
+          toks_are (g ∷ gs) ms = ap (sep 𝓤 (A.lft (ms.0.0 ∷ []) _)) (toks_are gs ms.1)
 
-          owned-are : loan.Owned fs ns b at ls P ≡ owns (types_at {n = all-lfts} lent-slots κs) lent-args
-              (loan.valss-on all-lfts (lifetimes ps) given-slots κs fs zero (λ μs. μs) b at (lists all-lfts κs ps (count fs zero) its given_args))
-          owned-are =
-              ap (loan.Owned fs ns b at ls) (same-owned (lifetimes ps) all-lfts (pick₀ κs₀) κs ps zero (count fs zero) (λ μs. μs) its
-              (sym (others-are fs (lifetimes ps) ns (pick₀ κs₀))) x)
-              ∙ loan.owned-on all-lfts (lifetimes ps) given-slots κs b given_args fs zero (λ μs. μs) ns at ls (lists all-lfts κs ps (count fs zero) its given_args) (pick₀ κs₀) refl
+          owned_are : loan.Owned fs ns b at ls P ≡ owns (types_at {n = all_lfts} lent_slots κs) lent_args
+              (loan.valss_on all_lfts (lifetimes ps) given_slots κs fs zero (λ μs. μs) b at (lists all_lfts κs ps (count fs zero) its given_args))
+          owned_are =
+              ap (loan.Owned fs ns b at ls) (same_owned (lifetimes ps) all_lfts (pick₀ κs₀) κs ps zero (count fs zero) (λ μs. μs) its
+              (sym (others_are fs (lifetimes ps) ns (pick₀ κs₀))) x)
+              ∙ loan.owned_on all_lfts (lifetimes ps) given_slots κs b given_args fs zero (λ μs. μs) ns at ls (lists all_lfts κs ps (count fs zero) its given_args) (pick₀ κs₀) refl
 
           ready : Are cs xs → ent 𝓤 (sep 𝓤 (mean 𝓛 (tokens fs ns (raw (toks 𝓛 (lifetimes ps) (pick₀ κs₀) qs)))) (sem 𝓛 (loan.Owned fs ns b at ls P)))
               (Known.pre bound)
           ready gs =
               qed 𝓛 (tokens fs ns (raw (toks 𝓛 (lifetimes ps) (pick₀ κs₀) qs)) ∷ ‵ (loan.Owned fs ns b at ls P) ∷ []) ∵
-              rewrite ! 1 (λ (F : Fml). ‵ F) owned-are refl $ move ! (1 ∷ []) $
-              use1 𝓛 (‵ (owns (types_at {n = all-lfts} (small.slots-on all-lfts cs lent-slots) κs) bound.0.3 bound.0.4))
-              (small.owned-on all-lfts lent-slots κs lent-args 𝓛 cs xs gs _) $ move ! (1 ∷ []) $
-              recast 𝓛 (raw (toks 𝓛 all-lfts κs (shares fs (lifetimes ps) qs))) (toks-are fs ns) $ join ! $ nothing ! $ move ! (1 ∷ 0 ∷ []) $ done !
+              rewrite ! 1 (λ (F : Fml). ‵ F) owned_are refl $ move ! (1 ∷ []) $
+              use1 𝓛 (‵ (owns (types_at {n = all_lfts} (small.slots_on all_lfts cs lent_slots) κs) bound.0.3 bound.0.4))
+              (small.owned_on all_lfts lent_slots κs lent_args 𝓛 cs xs gs _) $ move ! (1 ∷ []) $
+              recast 𝓛 (raw (toks 𝓛 all_lfts κs (shares fs (lifetimes ps) qs))) (toks_are fs ns) $ join ! $ nothing ! $ move ! (1 ∷ 0 ∷ []) $ done !
 
           -- what the callee says, at last values ws, in the caller's terms
-          abbrev lent-ends : Lasts lending κs bound.0.3 → loan.Bound all-lfts (lifetimes ps) given-slots κs b given_args fs zero (λ μs. μs) ns at ls
-          lent-ends ws = small.after-ends all-lfts lent-slots κs lent-args cs xs ws
+          abbrev lent_ends : Lasts lending κs bound.0.3 → loan.Bound all_lfts (lifetimes ps) given_slots κs b given_args fs zero (λ μs. μs) ns at ls
+          lent_ends ws = small.after_ends all_lfts lent_slots κs lent_args cs xs ws
 
           abbrev zs : Lasts lending κs bound.0.3 → Changes fs
-          zs ws = changes fs ns b at ls (loan.ends_on all-lfts (lifetimes ps) given-slots κs b given_args fs zero (λ μs. μs) ns at ls (lent-ends ws))
+          zs ws = changes fs ns b at ls (loan.ends_on all_lfts (lifetimes ps) given_slots κs b given_args fs zero (λ μs. μs) ns at ls (lent_ends ws))
 
           abbrev Said : R.Denot → Lasts lending κs bound.0.3 → Type 0
           Said r ws =
-              let rest = small.after-args all-lfts lent-slots κs cs bound.0.3 in
-              φ (small.values_of all-lfts lent-slots κs cs bound.0.3) (loan.nows all-lfts (lifetimes ps) given-slots κs fs zero (λ μs. μs) rest)
-              (data_of all-lfts κs ps (count fs zero) its (loan.after-args all-lfts (lifetimes ps) given-slots κs fs zero (λ μs. μs) rest)) r
-              (loan.seens all-lfts (lifetimes ps) given-slots κs fs zero (λ μs. μs) (small.after-outs all-lfts lent-slots κs cs (at_exit lending κs bound.0.3 ws)))
+              let rest = small.after_args all_lfts lent_slots κs cs bound.0.3 in
+              φ (small.values_of all_lfts lent_slots κs cs bound.0.3) (loan.nows all_lfts (lifetimes ps) given_slots κs fs zero (λ μs. μs) rest)
+              (data_of all_lfts κs ps (count fs zero) its (loan.after_args all_lfts (lifetimes ps) given_slots κs fs zero (λ μs. μs) rest)) r
+              (loan.seens all_lfts (lifetimes ps) given_slots κs fs zero (λ μs. μs) (small.after_outs all_lfts lent_slots κs cs (at_exit lending κs bound.0.3 ws)))
 
-          rest-is : small.after-args all-lfts lent-slots κs cs bound.0.3 ≡ lent-args
-          rest-is = small.after-are all-lfts lent-slots κs lent-args cs xs
+          rest_is : small.after_args all_lfts lent_slots κs cs bound.0.3 ≡ lent_args
+          rest_is = small.after_are all_lfts lent_slots κs lent_args cs xs
 
-          lists-are : loan.nows all-lfts (lifetimes ps) given-slots κs fs zero (λ μs. μs) (small.after-args all-lfts lent-slots κs cs bound.0.3) ≡ ls
-          lists-are =
-              ap (loan.nows all-lfts (lifetimes ps) given-slots κs fs zero (λ μs. μs)) rest-is
-              ∙ loan.nows-are all-lfts (lifetimes ps) given-slots κs fs zero (λ μs. μs) ns b at ls given_args
+          lists_are : loan.nows all_lfts (lifetimes ps) given_slots κs fs zero (λ μs. μs) (small.after_args all_lfts lent_slots κs cs bound.0.3) ≡ ls
+          lists_are =
+              ap (loan.nows all_lfts (lifetimes ps) given_slots κs fs zero (λ μs. μs)) rest_is
+              ∙ loan.nows_are all_lfts (lifetimes ps) given_slots κs fs zero (λ μs. μs) ns b at ls given_args
 
-          data_is : data_of all-lfts κs ps (count fs zero) its (loan.after-args all-lfts (lifetimes ps) given-slots κs fs zero (λ μs. μs)
-              (small.after-args all-lfts lent-slots κs cs bound.0.3)) ≡ x
+          data_is : data_of all_lfts κs ps (count fs zero) its (loan.after_args all_lfts (lifetimes ps) given_slots κs fs zero (λ μs. μs)
+              (small.after_args all_lfts lent_slots κs cs bound.0.3)) ≡ x
           data_is =
-              ap (data_of all-lfts κs ps (count fs zero) its) (ap (loan.after-args all-lfts (lifetimes ps) given-slots κs fs zero (λ μs. μs)) rest-is
-              ∙ loan.after-are all-lfts (lifetimes ps) given-slots κs fs zero (λ μs. μs) ns b at ls given_args) ∙ data-args all-lfts κs ps (count fs zero) its x
+              ap (data_of all_lfts κs ps (count fs zero) its) (ap (loan.after_args all_lfts (lifetimes ps) given_slots κs fs zero (λ μs. μs)) rest_is
+              ∙ loan.after_are all_lfts (lifetimes ps) given_slots κs fs zero (λ μs. μs) ns b at ls given_args) ∙ data_args all_lfts κs ps (count fs zero) its x
 
-          last-are : (ws : Lasts lending κs bound.0.3)
-              → loan.seens all-lfts (lifetimes ps) given-slots κs fs zero (λ μs. μs) (small.after-outs all-lfts lent-slots κs cs (at_exit lending κs bound.0.3 ws)) ≡ after fs ls (zs ws)
-          last-are ws =
-              ap (loan.seens all-lfts (lifetimes ps) given-slots κs fs zero (λ μs. μs)) (small.outs-are all-lfts lent-slots κs lent-args cs xs ws)
-              ∙ loan.seens_are all-lfts (lifetimes ps) given-slots κs b given_args fs zero (λ μs. μs) ns at ls (lent-ends ws)
+          last_are : (ws : Lasts lending κs bound.0.3)
+              → loan.seens all_lfts (lifetimes ps) given_slots κs fs zero (λ μs. μs) (small.after_outs all_lfts lent_slots κs cs (at_exit lending κs bound.0.3 ws)) ≡ after fs ls (zs ws)
+          last_are ws =
+              ap (loan.seens all_lfts (lifetimes ps) given_slots κs fs zero (λ μs. μs)) (small.outs_are all_lfts lent_slots κs lent_args cs xs ws)
+              ∙ loan.seens_are all_lfts (lifetimes ps) given_slots κs b given_args fs zero (λ μs. μs) ns at ls (lent_ends ws)
 
           told : (r : R.Denot) (ws : Lasts lending κs bound.0.3) → Said r ws → φ xs ls x r (after fs ls (zs ws))
           told r ws e =
-              subst (λ (X : Type 0). X) (λ i. φ (small.values-are all-lfts lent-slots κs lent-args cs xs i) (lists-are i) (data_is i) r (last-are ws i)) e
+              subst (λ (X : Type 0). X) (λ i. φ (small.values_are all_lfts lent_slots κs lent_args cs xs i) (lists_are i) (data_is i) r (last_are ws i)) e
 
         module _ {K : Type 0} {Γ : List (Item 𝓤)} {E : Env 𝓤 H} {C : Calls 𝓤 H} {Λ : Loops 𝓤 H} {aim : Aim 𝓤 H} {f : Name} {os : List Operand} {d : Place} {rest : Code} where
-          pub calls-lending : K → FmC 𝓤 H 𝓛.laws C → Triple 𝓤 (C f) Known → (q : Share) → AllFit q fs → Are cs xs → Sounds fs ls
+          pub calls_lending : K → FmC 𝓤 H 𝓛.laws C → Triple 𝓤 (C f) Known → (q : Share) → AllFit q fs → Are cs xs → Sounds fs ls
               → ((i j k : Item 𝓤) → Opds K 𝓛 (i ∷ j ∷ k ∷ Γ) E os (copied cs xs (pointers fs b at (values ps x))))
               → ((v : Val) (r : R.Denot) (ys : Changes fs) → φ xs ls x r (after fs ls ys) → Is R r (v ∷ []) → Sounds fs (after fs ls ys)
               → Seq K 𝓛 (‵ (R.own r (v ∷ [])) ∷ cells q fs b at (after fs ls ys) ∷ raw (toks 𝓛 (lifetimes ps) (pick₀ κs₀) qs) ∷ ‵ (Had n₀ κs₀ ps j₀ pick₀ a) ∷ Γ) (lands C Λ E d v rest aim))
               → Seq K 𝓛 (cells q fs b at ls ∷ raw (toks 𝓛 (lifetimes ps) (pick₀ κs₀) qs) ∷ ‵ (Owned n₀ κs₀ ps j₀ pick₀ a) ∷ Γ) (runs C Λ E (seq (call f os d) rest) aim)
-          calls-lending t fm met q fit are sound operands next =
-              move t (2 ∷ []) $ use1 𝓛 (‵ (fsep P (Had n₀ κs₀ ps j₀ pick₀ a))) (handed-on 𝓛 n₀ (lifetimes ps) κs₀ (pick₀ κs₀) ps j₀ zero pick₀ (λ μs. μs) refl a) $ fsplit t $
-              move t (2 ∷ 3 ∷ 0 ∷ []) $ lends-all t tt q fs fit b at ls sound (λ ns.
+          calls_lending t fm met q fit are sound operands next =
+              move t (2 ∷ []) $ use1 𝓛 (‵ (fsep P (Had n₀ κs₀ ps j₀ pick₀ a))) (handed_on 𝓛 n₀ (lifetimes ps) κs₀ (pick₀ κs₀) ps j₀ zero pick₀ (λ μs. μs) refl a) $ fsplit t $
+              move t (2 ∷ 3 ∷ 0 ∷ []) $ lends_all t tt q fs fit b at ls sound (λ ns.
               -- [the tokens; what the arguments own; the lenders' parts; what is had of the others]
               use2 𝓛 (raw (Known.pre (bound ns))) (ready ns are) $
               calls_at t fm Known met (bound ns) (subst (λ (us : List Val). Opds K 𝓛 (raw (Known.pre (bound ns)) ∷ lenders q fs ns b at ls ∷ ‵ (Had n₀ κs₀ ps j₀ pick₀ a) ∷ Γ) E os us) (sym (passed ns))
               (operands (raw (Known.pre (bound ns))) (lenders q fs ns b at ls) (‵ (Had n₀ κs₀ ps j₀ pick₀ a)))) (λ v.
-              use1 𝓛 (later (some (λ (r : R.Denot). (raw (toks 𝓛 all-lfts (κs ns) (shares fs (lifetimes ps) qs)) ⊛ ‵ (R.own r (v ∷ [])))
+              use1 𝓛 (later (some (λ (r : R.Denot). (raw (toks 𝓛 all_lfts (κs ns) (shares fs (lifetimes ps) qs)) ⊛ ‵ (R.own r (v ∷ [])))
               ⊛ raw (ensured 𝓛 lending says (κs ns) (bound ns).0.3 tt r)))) (id⊢ 𝓤 _) $ await t tt $ pick t (λ r. split t $ move t (1 ∷ []) $
               use1 𝓛 (some (λ (ws : Lasts lending (κs ns) (bound ns).0.3). ‵ (lasts lending (κs ns) (bound ns).0.3 ws) ⊛ raw (fact 𝓤 (Said ns r ws)))) (id⊢ 𝓤 _) $ pick t (λ ws.
               split t $ move t (1 ∷ []) $ heard t (Said ns r ws) (λ e.
               -- [what is said of the last values; the tokens and the result; the lenders' parts; …]
-              use1 𝓛 (‵ (lasts_of (κs ns) lent-slots (all yes lent-slots) (lent-args ns) (lent-ends ns ws))) (small.left-on all-lfts lent-slots (κs ns) (lent-args ns) 𝓛 cs xs ws) $
-              rewrite t 0 (λ (F : Fml). ‵ F) (loan.left-on all-lfts (lifetimes ps) given-slots (κs ns) b (given_args ns) fs zero (λ μs. μs) ns at ls (lent-ends ns ws)) refl $
-              move t (1 ∷ []) $ split t $ recast 𝓛 (tokens fs ns (raw (toks 𝓛 (lifetimes ps) (pick₀ κs₀) qs))) (sym (toks-are ns fs ns)) $ move t (0 ∷ 3 ∷ 2 ∷ []) $
-              backs-all t tt q fs fit b at ls ns (loan.ends_on all-lfts (lifetimes ps) given-slots (κs ns) b (given_args ns) fs zero (λ μs. μs) ns at ls (lent-ends ns ws)) (λ gs.
+              use1 𝓛 (‵ (lasts_of (κs ns) lent_slots (all yes lent_slots) (lent_args ns) (lent_ends ns ws))) (small.left_on all_lfts lent_slots (κs ns) (lent_args ns) 𝓛 cs xs ws) $
+              rewrite t 0 (λ (F : Fml). ‵ F) (loan.left_on all_lfts (lifetimes ps) given_slots (κs ns) b (given_args ns) fs zero (λ μs. μs) ns at ls (lent_ends ns ws)) refl $
+              move t (1 ∷ []) $ split t $ recast 𝓛 (tokens fs ns (raw (toks 𝓛 (lifetimes ps) (pick₀ κs₀) qs))) (sym (toks_are ns fs ns)) $ move t (0 ∷ 3 ∷ 2 ∷ []) $
+              backs_all t tt q fs fit b at ls ns (loan.ends_on all_lfts (lifetimes ps) given_slots (κs ns) b (given_args ns) fs zero (λ μs. μs) ns at ls (lent_ends ns ws)) (λ gs.
               -- [the cells; the tokens; what is said of the others; the result; what is had of the others]
               move t (2 ∷ []) $ drop t $ move t (2 ∷ []) $ peeks t R (Is R) (shows 𝓛 R) r (v ∷ []) (λ is. next v r (zs ns ws) (told ns r ws e) is gs)))))))

@@ -19,8 +19,8 @@ use denote.Laws.{Typed}
 use denote.Steps.{nothing}
 use Rattle.lend.proofs.Row.{Blocks, Stand, rooms, cells as row-cells, found, in_left, in_right}
 use Rattle.lend.proofs.Loan.{Stretch, ty, Sound, cell, Mode}
-use Rattle.lend.proofs.Loans.{Loan, Lists, Sounds, Offsets, cells, pointers, refTys}
-use Rattle.lend.proofs.Fields.{Contents, Places, Paths, Lead, all-cells}
+use Rattle.lend.proofs.Loans.{Loan, Lists, Sounds, Offsets, cells, pointers, ref_tys}
+use Rattle.lend.proofs.Fields.{Contents, Places, Paths, Lead, all_cells}
 
 pub data Mark : Type 0 where
   stays : Mark
@@ -51,11 +51,11 @@ changed (s ∷ ss) [] ls zs = ls
 changed (s ∷ ss) (stays ∷ ms) ls zs = (ls.0, changed ss ms ls.1 zs)
 changed (s ∷ ss) (goes m ∷ ms) ls zs = (zs.0, changed ss ms ls.1 zs.1)
 
-pub chosen-back : (ss : List Stretch) (ms : List Mark) (ls : Contents ss) → changed ss ms ls (chosen ss ms ls) ≡ ls
-chosen-back [] ms ls = refl
-chosen-back (s ∷ ss) [] ls = refl
-chosen-back (s ∷ ss) (stays ∷ ms) ls = λ i. (ls.0, chosen-back ss ms ls.1 i)
-chosen-back (s ∷ ss) (goes m ∷ ms) ls = λ i. (ls.0, chosen-back ss ms ls.1 i)
+pub chosen_back : (ss : List Stretch) (ms : List Mark) (ls : Contents ss) → changed ss ms ls (chosen ss ms ls) ≡ ls
+chosen_back [] ms ls = refl
+chosen_back (s ∷ ss) [] ls = refl
+chosen_back (s ∷ ss) (stays ∷ ms) ls = λ i. (ls.0, chosen_back ss ms ls.1 i)
+chosen_back (s ∷ ss) (goes m ∷ ms) ls = λ i. (ls.0, chosen_back ss ms ls.1 i)
 
 abbrev pub offsets : (ss : List Stretch) (ms : List Mark) → Places ss → Offsets (loans ss ms)
 offsets [] ms at = tt
@@ -64,55 +64,55 @@ offsets (s ∷ ss) (stays ∷ ms) at = offsets ss ms at.1
 offsets (s ∷ ss) (goes m ∷ ms) at = (at.0, offsets ss ms at.1)
 
 -- what is known of all lists
-abbrev pub All-sound : (ss : List Stretch) → Contents ss → Type 0
-All-sound [] ls = Unit {0}
-All-sound (s ∷ ss) ls = Sound s ls.0 × All-sound ss ls.1
+abbrev pub AllSound : (ss : List Stretch) → Contents ss → Type 0
+AllSound [] ls = Unit {0}
+AllSound (s ∷ ss) ls = Sound s ls.0 × AllSound ss ls.1
 
-pub sound-chosen : (ss : List Stretch) (ms : List Mark) (ls : Contents ss) → All-sound ss ls → Sounds (loans ss ms) (chosen ss ms ls)
-sound-chosen [] ms ls gs = tt
-sound-chosen (s ∷ ss) [] ls gs = tt
-sound-chosen (s ∷ ss) (stays ∷ ms) ls gs = sound-chosen ss ms ls.1 gs.1
-sound-chosen (s ∷ ss) (goes m ∷ ms) ls gs = (gs.0, sound-chosen ss ms ls.1 gs.1)
+pub sound_chosen : (ss : List Stretch) (ms : List Mark) (ls : Contents ss) → AllSound ss ls → Sounds (loans ss ms) (chosen ss ms ls)
+sound_chosen [] ms ls gs = tt
+sound_chosen (s ∷ ss) [] ls gs = tt
+sound_chosen (s ∷ ss) (stays ∷ ms) ls gs = sound_chosen ss ms ls.1 gs.1
+sound_chosen (s ∷ ss) (goes m ∷ ms) ls gs = (gs.0, sound_chosen ss ms ls.1 gs.1)
 
-pub sound-changed : (ss : List Stretch) (ms : List Mark) (ls : Contents ss) (zs : Lists (loans ss ms)) → All-sound ss ls → Sounds (loans ss ms) zs
-    → All-sound ss (changed ss ms ls zs)
-sound-changed [] ms ls zs gs hs = tt
-sound-changed (s ∷ ss) [] ls zs gs hs = gs
-sound-changed (s ∷ ss) (stays ∷ ms) ls zs gs hs = (gs.0, sound-changed ss ms ls.1 zs gs.1 hs)
-sound-changed (s ∷ ss) (goes m ∷ ms) ls zs gs hs = (hs.0, sound-changed ss ms ls.1 zs.1 gs.1 hs.1)
+pub sound_changed : (ss : List Stretch) (ms : List Mark) (ls : Contents ss) (zs : Lists (loans ss ms)) → AllSound ss ls → Sounds (loans ss ms) zs
+    → AllSound ss (changed ss ms ls zs)
+sound_changed [] ms ls zs gs hs = tt
+sound_changed (s ∷ ss) [] ls zs gs hs = gs
+sound_changed (s ∷ ss) (stays ∷ ms) ls zs gs hs = (gs.0, sound_changed ss ms ls.1 zs gs.1 hs)
+sound_changed (s ∷ ss) (goes m ∷ ms) ls zs gs hs = (hs.0, sound_changed ss ms ls.1 zs.1 gs.1 hs.1)
 
 -- ---- the cells
 module _ {M : Type 1} {𝓤 : Ura M} (𝓛 : Logic 𝓤) (q : Share) (b : ℕ) where
   abbrev pub staying : (ss : List Stretch) (ms : List Mark) → Places ss → Contents ss → Item 𝓤
   staying [] ms at ls = ‵ ftrue
-  staying (s ∷ ss) [] at ls = all-cells 𝓛 q b (s ∷ ss) at ls
+  staying (s ∷ ss) [] at ls = all_cells 𝓛 q b (s ∷ ss) at ls
   staying (s ∷ ss) (stays ∷ ms) at ls = ‵ (cell q s b at.0 ls.0) ⊛ staying ss ms at.1 ls.1
   staying (s ∷ ss) (goes m ∷ ms) at ls = staying ss ms at.1 ls.1
 
   module _ where
-    pub lent-apart : (ss : List Stretch) (ms : List Mark) (at : Places ss) (ls : Contents ss)
-        → ent 𝓤 (mean 𝓛 (all-cells 𝓛 q b ss at ls)) (mean 𝓛 (cells q (loans ss ms) b (offsets ss ms at) (chosen ss ms ls) ⊛ staying ss ms at ls))
-    lent-apart [] ms at ls = qed 𝓛 (‵ ftrue ∷ []) ∵ nothing ! $ done !
-    lent-apart (s ∷ ss) [] at ls = qed 𝓛 (all-cells 𝓛 q b (s ∷ ss) at ls ∷ []) ∵ nothing ! $ done !
-    lent-apart (s ∷ ss) (stays ∷ ms) at ls =
-        qed 𝓛 ((‵ (cell q s b at.0 ls.0) ⊛ all-cells 𝓛 q b ss at.1 ls.1) ∷ []) ∵ split ! $ move ! (1 ∷ []) $
-        use1 𝓛 (cells q (loans ss ms) b (offsets ss ms at.1) (chosen ss ms ls.1) ⊛ staying ss ms at.1 ls.1) (lent-apart ss ms at.1 ls.1) $
+    pub lent_apart : (ss : List Stretch) (ms : List Mark) (at : Places ss) (ls : Contents ss)
+        → ent 𝓤 (mean 𝓛 (all_cells 𝓛 q b ss at ls)) (mean 𝓛 (cells q (loans ss ms) b (offsets ss ms at) (chosen ss ms ls) ⊛ staying ss ms at ls))
+    lent_apart [] ms at ls = qed 𝓛 (‵ ftrue ∷ []) ∵ nothing ! $ done !
+    lent_apart (s ∷ ss) [] at ls = qed 𝓛 (all_cells 𝓛 q b (s ∷ ss) at ls ∷ []) ∵ nothing ! $ done !
+    lent_apart (s ∷ ss) (stays ∷ ms) at ls =
+        qed 𝓛 ((‵ (cell q s b at.0 ls.0) ⊛ all_cells 𝓛 q b ss at.1 ls.1) ∷ []) ∵ split ! $ move ! (1 ∷ []) $
+        use1 𝓛 (cells q (loans ss ms) b (offsets ss ms at.1) (chosen ss ms ls.1) ⊛ staying ss ms at.1 ls.1) (lent_apart ss ms at.1 ls.1) $
         split ! $ frame ! $ move ! (1 ∷ 0 ∷ []) $ done !
-    lent-apart (s ∷ ss) (goes m ∷ ms) at ls =
-        qed 𝓛 ((‵ (cell q s b at.0 ls.0) ⊛ all-cells 𝓛 q b ss at.1 ls.1) ∷ []) ∵ split ! $ move ! (1 ∷ []) $
-        use1 𝓛 (cells q (loans ss ms) b (offsets ss ms at.1) (chosen ss ms ls.1) ⊛ staying ss ms at.1 ls.1) (lent-apart ss ms at.1 ls.1) $
+    lent_apart (s ∷ ss) (goes m ∷ ms) at ls =
+        qed 𝓛 ((‵ (cell q s b at.0 ls.0) ⊛ all_cells 𝓛 q b ss at.1 ls.1) ∷ []) ∵ split ! $ move ! (1 ∷ []) $
+        use1 𝓛 (cells q (loans ss ms) b (offsets ss ms at.1) (chosen ss ms ls.1) ⊛ staying ss ms at.1 ls.1) (lent_apart ss ms at.1 ls.1) $
         split ! $ move ! (2 ∷ 0 ∷ []) $ join ! $ frame ! $ done !
 
-    pub all-again : (ss : List Stretch) (ms : List Mark) (at : Places ss) (ls : Contents ss) (zs : Lists (loans ss ms))
-        → ent 𝓤 (mean 𝓛 (cells q (loans ss ms) b (offsets ss ms at) zs ⊛ staying ss ms at ls)) (mean 𝓛 (all-cells 𝓛 q b ss at (changed ss ms ls zs)))
-    all-again [] ms at ls zs = qed 𝓛 ((‵ ftrue ⊛ ‵ ftrue) ∷ []) ∵ split ! $ keep ! (0 ∷ []) $ done !
-    all-again (s ∷ ss) [] at ls zs = qed 𝓛 ((‵ ftrue ⊛ all-cells 𝓛 q b (s ∷ ss) at ls) ∷ []) ∵ split ! $ keep ! (1 ∷ []) $ done !
-    all-again (s ∷ ss) (stays ∷ ms) at ls zs =
+    pub all_again : (ss : List Stretch) (ms : List Mark) (at : Places ss) (ls : Contents ss) (zs : Lists (loans ss ms))
+        → ent 𝓤 (mean 𝓛 (cells q (loans ss ms) b (offsets ss ms at) zs ⊛ staying ss ms at ls)) (mean 𝓛 (all_cells 𝓛 q b ss at (changed ss ms ls zs)))
+    all_again [] ms at ls zs = qed 𝓛 ((‵ ftrue ⊛ ‵ ftrue) ∷ []) ∵ split ! $ keep ! (0 ∷ []) $ done !
+    all_again (s ∷ ss) [] at ls zs = qed 𝓛 ((‵ ftrue ⊛ all_cells 𝓛 q b (s ∷ ss) at ls) ∷ []) ∵ split ! $ keep ! (1 ∷ []) $ done !
+    all_again (s ∷ ss) (stays ∷ ms) at ls zs =
         qed 𝓛 ((cells q (loans ss ms) b (offsets ss ms at.1) zs ⊛ (‵ (cell q s b at.0 ls.0) ⊛ staying ss ms at.1 ls.1)) ∷ []) ∵
-        split ! $ move ! (1 ∷ []) $ split ! $ frame ! $ move ! (1 ∷ 0 ∷ []) $ join ! $ by ! (all-again ss ms at.1 ls.1 zs)
-    all-again (s ∷ ss) (goes m ∷ ms) at ls zs =
+        split ! $ move ! (1 ∷ []) $ split ! $ frame ! $ move ! (1 ∷ 0 ∷ []) $ join ! $ by ! (all_again ss ms at.1 ls.1 zs)
+    all_again (s ∷ ss) (goes m ∷ ms) at ls zs =
         qed 𝓛 (((‵ (cell q s b at.0 zs.0) ⊛ cells q (loans ss ms) b (offsets ss ms at.1) zs.1) ⊛ staying ss ms at.1 ls.1) ∷ []) ∵
-        split ! $ split ! $ frame ! $ join ! $ by ! (all-again ss ms at.1 ls.1 zs.1)
+        split ! $ split ! $ frame ! $ join ! $ by ! (all_again ss ms at.1 ls.1 zs.1)
 
 -- ---- the references
 abbrev pub Steps : List Loan → Type 0
@@ -141,19 +141,19 @@ module _ {M : Type 1} {𝓤 : Ura M} (K : Type 0) (𝓛 : Logic 𝓤) (Γ : List
   led (s ∷ ss) (stays ∷ ms) ps at ws = led ss ms ps.1 at.1 ws.1
   led (s ∷ ss) (goes m ∷ ms) ps at ws = (ws.0, led ss ms ps.1 at.1 ws.1)
 
-pub pointers-typed : (fs : List Loan) (b : ℕ) (at : Offsets fs) → Typed (refTys fs) (pointers fs b at [])
-pointers-typed [] b at = tt
-pointers-typed (f ∷ fs) b at = ((tt, tt), pointers-typed fs b at.1)
+pub pointers_typed : (fs : List Loan) (b : ℕ) (at : Offsets fs) → Typed (ref_tys fs) (pointers fs b at [])
+pointers_typed [] b at = tt
+pointers_typed (f ∷ fs) b at = ((tt, tt), pointers_typed fs b at.1)
 
 module _ {M : Type 1} {𝓤 : Ura M} {𝓛 : Logic 𝓤} {K : Type 0} {C : Calls 𝓤 𝓛.H} {Λ : Loops 𝓤 𝓛.H} {E : Env 𝓤 𝓛.H} {q : Aim 𝓤 𝓛.H} {rest : Code} where
   -- the reference to the struct, of type ρ, lies in local 1
   open 𝓛 use {H}
 
   pub take_row : K → (fs : List Loan) (st : Steps fs) (σ ρ : Ty) (l b o : ℕ) → get_or E 1 (no_local 𝓤 H) ≡ (ρ, l)
-      → (at : Offsets fs) (bs : Blocks (refTys fs)) (n : ℕ) → Stand E (no_local 𝓤 H) n (refTys fs) bs → ((Γ : List (Item 𝓤)) → Led K 𝓛 Γ E (σ, b, o) b fs st at)
+      → (at : Offsets fs) (bs : Blocks (ref_tys fs)) (n : ℕ) → Stand E (no_local 𝓤 H) n (ref_tys fs) bs → ((Γ : List (Item 𝓤)) → Led K 𝓛 Γ E (σ, b, o) b fs st at)
       → {Γ : List (Item 𝓤)}
-      → Step K 𝓛 (row-cells (refTys fs) (pointers fs b at []) bs ∷ ‵ (fat full_share ρ l zero (vptr b o)) ∷ Γ) (runs C Λ E rest q)
-      (rooms (refTys fs) bs ∷ ‵ (fat full_share ρ l zero (vptr b o)) ∷ Γ) (runs C Λ E (takes fs st σ n rest) q)
+      → Step K 𝓛 (row-cells (ref_tys fs) (pointers fs b at []) bs ∷ ‵ (fat full_share ρ l zero (vptr b o)) ∷ Γ) (runs C Λ E rest q)
+      (rooms (ref_tys fs) bs ∷ ‵ (fat full_share ρ l zero (vptr b o)) ∷ Γ) (runs C Λ E (takes fs st σ n rest) q)
   take_row t [] st σ ρ l b o one at bs n stand go = step (λ s. s)
   take_row t (f ∷ fs) st σ ρ l b o one at bs n stand go =
       step (λ s. split t $ split t $
@@ -161,17 +161,17 @@ module _ {M : Type 1} {𝓤 : Ura M} {𝓛 : Logic 𝓤} {K : Type 0} {C : Calls
       take_row t fs st.1 σ ρ l b o one at.1 bs.1 (suc n) stand.1 (λ Γ. (go Γ).1) $ move t (2 ∷ 3 ∷ 0 ∷ []) $ join t $ join t $ s)
 
 -- the references as operands, before others
-abbrev pub ref-copies : (fs : List Loan) → ℕ → List Operand → List Operand
-ref-copies [] n os = os
-ref-copies (f ∷ fs) n os = copy (place n []) ∷ ref-copies fs (suc n) os
+abbrev pub ref_copies : (fs : List Loan) → ℕ → List Operand → List Operand
+ref_copies [] n os = os
+ref_copies (f ∷ fs) n os = copy (place n []) ∷ ref_copies fs (suc n) os
 
 module _ {M : Type 1} {𝓤 : Ura M} {𝓛 : Logic 𝓤} {K : Type 0} {Γ : List (Item 𝓤)} {E : Env 𝓤 𝓛.H} where
   open 𝓛 use {H}
 
-  pub read-refs : K → (fs : List Loan) (b : ℕ) (at : Offsets fs) (bs : Blocks (refTys fs)) (n : ℕ) → Stand E (no_local 𝓤 H) n (refTys fs) bs
-      → ((τ : Ty) (l : ℕ) (v : Val) (back : Val → Item 𝓤) → Part K 𝓛 (row-cells (refTys fs) (pointers fs b at []) bs) full_share τ l zero v back → Reads K 𝓛 Γ τ l zero v)
-      → {os : List Operand} {us : List Val} → Opds K 𝓛 Γ E os us → Opds K 𝓛 Γ E (ref-copies fs n os) (pointers fs b at us)
-  read-refs t [] b at bs n stand look' others = others
-  read-refs t (f ∷ fs) b at bs n stand look' others =
+  pub read_refs : K → (fs : List Loan) (b : ℕ) (at : Offsets fs) (bs : Blocks (ref_tys fs)) (n : ℕ) → Stand E (no_local 𝓤 H) n (ref_tys fs) bs
+      → ((τ : Ty) (l : ℕ) (v : Val) (back : Val → Item 𝓤) → Part K 𝓛 (row-cells (ref_tys fs) (pointers fs b at []) bs) full_share τ l zero v back → Reads K 𝓛 Γ τ l zero v)
+      → {os : List Operand} {us : List Val} → Opds K 𝓛 Γ E os us → Opds K 𝓛 Γ E (ref_copies fs n os) (pointers fs b at us)
+  read_refs t [] b at bs n stand look' others = others
+  read_refs t (f ∷ fs) b at bs n stand look' others =
       and_then t (load t (found t stand.0 (stop t)) (look' _ bs.0 (vptr b at.0) _ (in_left t (in_left t (whole t)))))
-      (read-refs t fs b at.1 bs.1 (suc n) stand.1 (λ τ l v back p. look' τ l v _ (in_right t p)) others)
+      (read_refs t fs b at.1 bs.1 (suc n) stand.1 (λ τ l v back p. look' τ l v _ (in_right t p)) others)

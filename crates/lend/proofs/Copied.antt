@@ -34,23 +34,23 @@ Are [] xs = Unit {0}
 Are (c ∷ cs) xs = Is c.row xs.0 (c.val xs.0 ∷ []) × Are cs xs.1
 
 module _ (n : ℕ) where
-  abbrev pub slots-on : List Small → List (Slot n) → List (Slot n)
-  slots-on [] ss = ss
-  slots-on (c ∷ cs) ss = plain (λ κs. c.row) ∷ slots-on cs ss
+  abbrev pub slots_on : List Small → List (Slot n) → List (Slot n)
+  slots_on [] ss = ss
+  slots_on (c ∷ cs) ss = plain (λ κs. c.row) ∷ slots_on cs ss
 
   module _ (ss : List (Slot n)) (κs : Lfts n) where
     abbrev Types : List Small → List RattleType
-    Types cs = types_at {n = n} (slots-on cs ss) κs
+    Types cs = types_at {n = n} (slots_on cs ss) κs
 
-    abbrev pub args-on : (cs : List Small) → Values cs → Denots (types_at {n = n} ss κs) → Denots (Types cs)
-    args-on [] xs a = a
-    args-on (c ∷ cs) xs a = (xs.0, args-on cs xs.1 a)
+    abbrev pub args_on : (cs : List Small) → Values cs → Denots (types_at {n = n} ss κs) → Denots (Types cs)
+    args_on [] xs a = a
+    args_on (c ∷ cs) xs a = (xs.0, args_on cs xs.1 a)
 
-    abbrev pub valss-on : (cs : List Small) → Values cs → Valss (types_at {n = n} ss κs) → Valss (Types cs)
-    valss-on [] xs vss = vss
-    valss-on (c ∷ cs) xs vss = (c.val xs.0 ∷ [], valss-on cs xs.1 vss)
+    abbrev pub valss_on : (cs : List Small) → Values cs → Valss (types_at {n = n} ss κs) → Valss (Types cs)
+    valss_on [] xs vss = vss
+    valss_on (c ∷ cs) xs vss = (c.val xs.0 ∷ [], valss_on cs xs.1 vss)
 
-    pub flat_on : (cs : List Small) (xs : Values cs) (vss : Valss (types_at {n = n} ss κs)) → flat (Types cs) (valss-on cs xs vss) ≡ copied cs xs (flat (types_at {n = n} ss κs) vss)
+    pub flat_on : (cs : List Small) (xs : Values cs) (vss : Valss (types_at {n = n} ss κs)) → flat (Types cs) (valss_on cs xs vss) ≡ copied cs xs (flat (types_at {n = n} ss κs) vss)
     flat_on [] xs vss = refl
     flat_on (c ∷ cs) xs vss = ap (λ (vs : List Val). c.val xs.0 ∷ vs) (flat_on cs xs.1 vss)
 
@@ -58,47 +58,47 @@ module _ (n : ℕ) where
     values_of [] a = tt
     values_of (c ∷ cs) a = (a.0, values_of cs a.1)
 
-    abbrev pub after-args : (cs : List Small) → Denots (Types cs) → Denots (types_at {n = n} ss κs)
-    after-args [] a = a
-    after-args (c ∷ cs) a = after-args cs a.1
+    abbrev pub after_args : (cs : List Small) → Denots (Types cs) → Denots (types_at {n = n} ss κs)
+    after_args [] a = a
+    after_args (c ∷ cs) a = after_args cs a.1
 
-    abbrev pub after-outs : (cs : List Small) → Outs κs (slots-on cs ss) (all yes (slots-on cs ss)) → Outs κs ss (all yes ss)
-    after-outs [] e = e
-    after-outs (c ∷ cs) e = after-outs cs e.1
+    abbrev pub after_outs : (cs : List Small) → Outs κs (slots_on cs ss) (all yes (slots_on cs ss)) → Outs κs ss (all yes ss)
+    after_outs [] e = e
+    after_outs (c ∷ cs) e = after_outs cs e.1
 
     module _ (a : Denots (types_at {n = n} ss κs)) where
-      pub values-are : (cs : List Small) (xs : Values cs) → values_of cs (args-on cs xs a) ≡ xs
-      values-are [] xs = refl
-      values-are (c ∷ cs) xs = λ i. (xs.0, values-are cs xs.1 i)
+      pub values_are : (cs : List Small) (xs : Values cs) → values_of cs (args_on cs xs a) ≡ xs
+      values_are [] xs = refl
+      values_are (c ∷ cs) xs = λ i. (xs.0, values_are cs xs.1 i)
 
-      pub after-are : (cs : List Small) (xs : Values cs) → after-args cs (args-on cs xs a) ≡ a
-      after-are [] xs = refl
-      after-are (c ∷ cs) xs = after-are cs xs.1
+      pub after_are : (cs : List Small) (xs : Values cs) → after_args cs (args_on cs xs a) ≡ a
+      after_are [] xs = refl
+      after_are (c ∷ cs) xs = after_are cs xs.1
 
       abbrev pub Bound : (cs : List Small) → Values cs → Type 0
-      Bound cs xs = Fins κs (slots-on cs ss) (all yes (slots-on cs ss)) (args-on cs xs a)
+      Bound cs xs = Fins κs (slots_on cs ss) (all yes (slots_on cs ss)) (args_on cs xs a)
 
-      abbrev pub after-ends : (cs : List Small) (xs : Values cs) → Bound cs xs → Fins κs ss (all yes ss) a
-      after-ends [] xs ws = ws
-      after-ends (c ∷ cs) xs ws = after-ends cs xs.1 ws.1
+      abbrev pub after_ends : (cs : List Small) (xs : Values cs) → Bound cs xs → Fins κs ss (all yes ss) a
+      after_ends [] xs ws = ws
+      after_ends (c ∷ cs) xs ws = after_ends cs xs.1 ws.1
 
-      pub outs-are : (cs : List Small) (xs : Values cs) (ws : Bound cs xs)
-          → after-outs cs (outs κs (slots-on cs ss) (all yes (slots-on cs ss)) (args-on cs xs a) ws) ≡ outs κs ss (all yes ss) a (after-ends cs xs ws)
-      outs-are [] xs ws = refl
-      outs-are (c ∷ cs) xs ws = outs-are cs xs.1 ws.1
+      pub outs_are : (cs : List Small) (xs : Values cs) (ws : Bound cs xs)
+          → after_outs cs (outs κs (slots_on cs ss) (all yes (slots_on cs ss)) (args_on cs xs a) ws) ≡ outs κs ss (all yes ss) a (after_ends cs xs ws)
+      outs_are [] xs ws = refl
+      outs_are (c ∷ cs) xs ws = outs_are cs xs.1 ws.1
 
       module _ {M : Type 1} {𝓤 : Ura M} (𝓛 : Logic 𝓤) where
-        pub owned-on : (cs : List Small) (xs : Values cs) → Are cs xs → (vss : Valss (types_at {n = n} ss κs))
-            → ent 𝓤 (sem 𝓛 (owns (types_at {n = n} ss κs) a vss)) (sem 𝓛 (owns (Types cs) (args-on cs xs a) (valss-on cs xs vss)))
-        owned-on [] xs gs vss = qed 𝓛 (‵ (owns (types_at {n = n} ss κs) a vss) ∷ []) ∵ done !
-        owned-on (c ∷ cs) xs gs vss =
+        pub owned_on : (cs : List Small) (xs : Values cs) → Are cs xs → (vss : Valss (types_at {n = n} ss κs))
+            → ent 𝓤 (sem 𝓛 (owns (types_at {n = n} ss κs) a vss)) (sem 𝓛 (owns (Types cs) (args_on cs xs a) (valss_on cs xs vss)))
+        owned_on [] xs gs vss = qed 𝓛 (‵ (owns (types_at {n = n} ss κs) a vss) ∷ []) ∵ done !
+        owned_on (c ∷ cs) xs gs vss =
             qed 𝓛 (‵ (owns (types_at {n = n} ss κs) a vss) ∷ []) ∵
-            use1 𝓛 (‵ (owns (Types cs) (args-on cs xs.1 a) (valss-on cs xs.1 vss))) (owned-on cs xs.1 gs.1 vss) $
+            use1 𝓛 (‵ (owns (Types cs) (args_on cs xs.1 a) (valss_on cs xs.1 vss))) (owned_on cs xs.1 gs.1 vss) $
             owned ! c.row (Is c.row) (c.plain 𝓛) xs.0 _ gs.0 $ done !
 
-        pub left-on : (cs : List Small) (xs : Values cs) (ws : Bound cs xs)
-            → ent 𝓤 (sem 𝓛 (lasts_of κs (slots-on cs ss) (all yes (slots-on cs ss)) (args-on cs xs a) ws)) (sem 𝓛 (lasts_of κs ss (all yes ss) a (after-ends cs xs ws)))
-        left-on [] xs ws = qed 𝓛 (‵ (lasts_of κs ss (all yes ss) a ws) ∷ []) ∵ done !
-        left-on (c ∷ cs) xs ws =
-            qed 𝓛 (‵ (lasts_of κs (slots-on (c ∷ cs) ss) (all yes (slots-on (c ∷ cs) ss)) (args-on (c ∷ cs) xs a) ws) ∷ []) ∵ fsplit ! $ drop ! $
-            use1 𝓛 (‵ (lasts_of κs ss (all yes ss) a (after-ends cs xs.1 ws.1))) (left-on cs xs.1 ws.1) $ done !
+        pub left_on : (cs : List Small) (xs : Values cs) (ws : Bound cs xs)
+            → ent 𝓤 (sem 𝓛 (lasts_of κs (slots_on cs ss) (all yes (slots_on cs ss)) (args_on cs xs a) ws)) (sem 𝓛 (lasts_of κs ss (all yes ss) a (after_ends cs xs ws)))
+        left_on [] xs ws = qed 𝓛 (‵ (lasts_of κs ss (all yes ss) a ws) ∷ []) ∵ done !
+        left_on (c ∷ cs) xs ws =
+            qed 𝓛 (‵ (lasts_of κs (slots_on (c ∷ cs) ss) (all yes (slots_on (c ∷ cs) ss)) (args_on (c ∷ cs) xs a) ws) ∷ []) ∵ fsplit ! $ drop ! $
+            use1 𝓛 (‵ (lasts_of κs ss (all yes ss) a (after_ends cs xs.1 ws.1))) (left_on cs xs.1 ws.1) $ done !

@@ -76,9 +76,9 @@ module _ {M : Type 1} {𝓤 : Ura M} (𝓛 : Logic 𝓤) (q : Share) (b : ℕ) w
   -- the arrays' cells
   open 𝓛 use {H}
 
-  abbrev pub all-cells : (ss : List Stretch) → Places ss → Contents ss → Item 𝓤
-  all-cells [] at ls = ‵ ftrue
-  all-cells (s ∷ ss) at ls = ‵ (cell q s b at.0 ls.0) ⊛ all-cells ss at.1 ls.1
+  abbrev pub all_cells : (ss : List Stretch) → Places ss → Contents ss → Item 𝓤
+  all_cells [] at ls = ‵ ftrue
+  all_cells (s ∷ ss) at ls = ‵ (cell q s b at.0 ls.0) ⊛ all_cells ss at.1 ls.1
 
   -- the way back from a struct's fields to the struct
   abbrev Way : Sym → Tys → ℕ → Vals → SProp 𝓤
@@ -94,64 +94,64 @@ module _ {M : Type 1} {𝓤 : Ura M} (𝓛 : Logic 𝓤) (q : Share) (b : ℕ) w
       ⊛ rest y (next (align (ty_struct ν (tys x))) e + size (ty_struct ν (tys x))) o ks.1
 
   module _ where
-    fields-apart : (y : Layout) (ss : List Stretch) (e o : ℕ) (at : Places ss) (ks : Kept y) (ls : Contents (arrays y ss))
-        → ent 𝓤 (sep 𝓤 (fields_at 𝓤 H q (tys y) e b o (vals y ss ks ls)) (mean 𝓛 (all-cells ss at (after y ss ls))))
-        (sep 𝓤 (mean 𝓛 (all-cells (arrays y ss) (places y ss e o at) ls)) (mean 𝓛 (rest y e o ks)))
-    fields-apart end ss e o at ks ls = qed 𝓛 (‵ ftrue ∷ all-cells ss at ls ∷ []) ∵ move ! (1 ∷ 0 ∷ []) $ done !
-    fields-apart (beside τ y) ss e o at ks ls =
+    fields_apart : (y : Layout) (ss : List Stretch) (e o : ℕ) (at : Places ss) (ks : Kept y) (ls : Contents (arrays y ss))
+        → ent 𝓤 (sep 𝓤 (fields_at 𝓤 H q (tys y) e b o (vals y ss ks ls)) (mean 𝓛 (all_cells ss at (after y ss ls))))
+        (sep 𝓤 (mean 𝓛 (all_cells (arrays y ss) (places y ss e o at) ls)) (mean 𝓛 (rest y e o ks)))
+    fields_apart end ss e o at ks ls = qed 𝓛 (‵ ftrue ∷ all_cells ss at ls ∷ []) ∵ move ! (1 ∷ 0 ∷ []) $ done !
+    fields_apart (beside τ y) ss e o at ks ls =
         let e' = next (align τ) e + size τ in
-        qed 𝓛 ((‵ (fat q τ b (o + next (align τ) e) ks.0) ⊛ raw (fields_at 𝓤 H q (tys y) e' b o (vals y ss ks.1 ls))) ∷ all-cells ss at (after y ss ls) ∷ []) ∵
-        split ! $ move ! (1 ∷ 2 ∷ []) $ use2 𝓛 (all-cells (arrays y ss) (places y ss e' o at) ls ⊛ rest y e' o ks.1) (fields-apart y ss e' o at ks.1 ls) $
+        qed 𝓛 ((‵ (fat q τ b (o + next (align τ) e) ks.0) ⊛ raw (fields_at 𝓤 H q (tys y) e' b o (vals y ss ks.1 ls))) ∷ all_cells ss at (after y ss ls) ∷ []) ∵
+        split ! $ move ! (1 ∷ 2 ∷ []) $ use2 𝓛 (all_cells (arrays y ss) (places y ss e' o at) ls ⊛ rest y e' o ks.1) (fields_apart y ss e' o at ks.1 ls) $
         split ! $ frame ! $ move ! (1 ∷ 0 ∷ []) $ done !
-    fields-apart (array s y) ss e o at ks ls =
+    fields_apart (array s y) ss e o at ks ls =
         let e' = next (align (ty s)) e + size (ty s) in
-        qed 𝓛 ((‵ (cell q s b (o + next (align (ty s)) e) ls.0) ⊛ raw (fields_at 𝓤 H q (tys y) e' b o (vals y ss ks ls.1))) ∷ all-cells ss at (after y ss ls.1) ∷ []) ∵
-        split ! $ move ! (1 ∷ 2 ∷ []) $ use2 𝓛 (all-cells (arrays y ss) (places y ss e' o at) ls.1 ⊛ rest y e' o ks) (fields-apart y ss e' o at ks ls.1) $
+        qed 𝓛 ((‵ (cell q s b (o + next (align (ty s)) e) ls.0) ⊛ raw (fields_at 𝓤 H q (tys y) e' b o (vals y ss ks ls.1))) ∷ all_cells ss at (after y ss ls.1) ∷ []) ∵
+        split ! $ move ! (1 ∷ 2 ∷ []) $ use2 𝓛 (all_cells (arrays y ss) (places y ss e' o at) ls.1 ⊛ rest y e' o ks) (fields_apart y ss e' o at ks ls.1) $
         split ! $ move ! (2 ∷ 0 ∷ []) $ join ! $ frame ! $ done !
-    fields-apart (inner ν x y) ss e o at ks ls =
+    fields_apart (inner ν x y) ss e o at ks ls =
         let σ = ty_struct ν (tys x) in
         let o' = o + next (align σ) e in
         let e' = next (align σ) e + size σ in
         let ls' = after x (arrays y ss) ls in
-        qed 𝓛 ((‵ (fat q σ b o' (vstruct (vals x (arrays y ss) ks.0 ls))) ⊛ raw (fields_at 𝓤 H q (tys y) e' b o (vals y ss ks.1 ls'))) ∷ all-cells ss at (after y ss ls') ∷ []) ∵
-        split ! $ move ! (1 ∷ 2 ∷ []) $ use2 𝓛 (all-cells (arrays y ss) (places y ss e' o at) ls' ⊛ rest y e' o ks.1) (fields-apart y ss e' o at ks.1 ls') $
+        qed 𝓛 ((‵ (fat q σ b o' (vstruct (vals x (arrays y ss) ks.0 ls))) ⊛ raw (fields_at 𝓤 H q (tys y) e' b o (vals y ss ks.1 ls'))) ∷ all_cells ss at (after y ss ls') ∷ []) ∵
+        split ! $ move ! (1 ∷ 2 ∷ []) $ use2 𝓛 (all_cells (arrays y ss) (places y ss e' o at) ls' ⊛ rest y e' o ks.1) (fields_apart y ss e' o at ks.1 ls') $
         split ! $ move ! (2 ∷ []) $
         use1 𝓛 (raw (fields_at 𝓤 H q (tys x) zero b o' (vals x (arrays y ss) ks.0 ls)) ⊛ raw (all 𝓤 (Way ν (tys x) o')))
         (𝓛.laws.at_fields q ν (tys x) b o' (vals x (arrays y ss) ks.0 ls)) $ split ! $ move ! (0 ∷ 2 ∷ []) $
-        use2 𝓛 (all-cells (arrays x (arrays y ss)) (places x (arrays y ss) zero o' (places y ss e' o at)) ls ⊛ rest x zero o' ks.0)
-        (fields-apart x (arrays y ss) zero o' (places y ss e' o at) ks.0 ls) $ split ! $ frame ! $ move ! (1 ∷ 0 ∷ 2 ∷ []) $ done !
+        use2 𝓛 (all_cells (arrays x (arrays y ss)) (places x (arrays y ss) zero o' (places y ss e' o at)) ls ⊛ rest x zero o' ks.0)
+        (fields_apart x (arrays y ss) zero o' (places y ss e' o at) ks.0 ls) $ split ! $ frame ! $ move ! (1 ∷ 0 ∷ 2 ∷ []) $ done !
 
-    fields-joined : (y : Layout) (ss : List Stretch) (e o : ℕ) (at : Places ss) (ks : Kept y) (ls : Contents (arrays y ss))
-        → ent 𝓤 (sep 𝓤 (mean 𝓛 (all-cells (arrays y ss) (places y ss e o at) ls)) (mean 𝓛 (rest y e o ks)))
-        (sep 𝓤 (fields_at 𝓤 H q (tys y) e b o (vals y ss ks ls)) (mean 𝓛 (all-cells ss at (after y ss ls))))
-    fields-joined end ss e o at ks ls = qed 𝓛 (all-cells ss at ls ∷ ‵ ftrue ∷ []) ∵ move ! (1 ∷ 0 ∷ []) $ done !
-    fields-joined (beside τ y) ss e o at ks ls =
+    fields_joined : (y : Layout) (ss : List Stretch) (e o : ℕ) (at : Places ss) (ks : Kept y) (ls : Contents (arrays y ss))
+        → ent 𝓤 (sep 𝓤 (mean 𝓛 (all_cells (arrays y ss) (places y ss e o at) ls)) (mean 𝓛 (rest y e o ks)))
+        (sep 𝓤 (fields_at 𝓤 H q (tys y) e b o (vals y ss ks ls)) (mean 𝓛 (all_cells ss at (after y ss ls))))
+    fields_joined end ss e o at ks ls = qed 𝓛 (all_cells ss at ls ∷ ‵ ftrue ∷ []) ∵ move ! (1 ∷ 0 ∷ []) $ done !
+    fields_joined (beside τ y) ss e o at ks ls =
         let e' = next (align τ) e + size τ in
-        qed 𝓛 (all-cells (arrays y ss) (places y ss e' o at) ls ∷ (‵ (fat q τ b (o + next (align τ) e) ks.0) ⊛ rest y e' o ks.1) ∷ []) ∵
+        qed 𝓛 (all_cells (arrays y ss) (places y ss e' o at) ls ∷ (‵ (fat q τ b (o + next (align τ) e) ks.0) ⊛ rest y e' o ks.1) ∷ []) ∵
         move ! (1 ∷ []) $ split ! $ move ! (2 ∷ 1 ∷ []) $
-        use2 𝓛 (raw (fields_at 𝓤 H q (tys y) e' b o (vals y ss ks.1 ls)) ⊛ all-cells ss at (after y ss ls)) (fields-joined y ss e' o at ks.1 ls) $
+        use2 𝓛 (raw (fields_at 𝓤 H q (tys y) e' b o (vals y ss ks.1 ls)) ⊛ all_cells ss at (after y ss ls)) (fields_joined y ss e' o at ks.1 ls) $
         split ! $ move ! (2 ∷ 0 ∷ []) $ join ! $ frame ! $ done !
-    fields-joined (array s y) ss e o at ks ls =
+    fields_joined (array s y) ss e o at ks ls =
         let e' = next (align (ty s)) e + size (ty s) in
-        qed 𝓛 ((‵ (cell q s b (o + next (align (ty s)) e) ls.0) ⊛ all-cells (arrays y ss) (places y ss e' o at) ls.1) ∷ rest y e' o ks ∷ []) ∵
+        qed 𝓛 ((‵ (cell q s b (o + next (align (ty s)) e) ls.0) ⊛ all_cells (arrays y ss) (places y ss e' o at) ls.1) ∷ rest y e' o ks ∷ []) ∵
         split ! $ move ! (1 ∷ 2 ∷ []) $
-        use2 𝓛 (raw (fields_at 𝓤 H q (tys y) e' b o (vals y ss ks ls.1)) ⊛ all-cells ss at (after y ss ls.1)) (fields-joined y ss e' o at ks ls.1) $
+        use2 𝓛 (raw (fields_at 𝓤 H q (tys y) e' b o (vals y ss ks ls.1)) ⊛ all_cells ss at (after y ss ls.1)) (fields_joined y ss e' o at ks ls.1) $
         split ! $ move ! (2 ∷ 0 ∷ []) $ join ! $ frame ! $ done !
-    fields-joined (inner ν x y) ss e o at ks ls =
+    fields_joined (inner ν x y) ss e o at ks ls =
         let σ = ty_struct ν (tys x) in
         let o' = o + next (align σ) e in
         let e' = next (align σ) e + size σ in
         let ls' = after x (arrays y ss) ls in
         let us = vals x (arrays y ss) ks.0 ls in
-        qed 𝓛 (all-cells (arrays x (arrays y ss)) (places x (arrays y ss) zero o' (places y ss e' o at)) ls
+        qed 𝓛 (all_cells (arrays x (arrays y ss)) (places x (arrays y ss) zero o' (places y ss e' o at)) ls
         ∷ (raw (all 𝓤 (Way ν (tys x) o')) ⊛ rest x zero o' ks.0 ⊛ rest y e' o ks.1) ∷ []) ∵
         move ! (1 ∷ []) $ split ! $ move ! (1 ∷ []) $ split ! $ move ! (3 ∷ 0 ∷ []) $
-        use2 𝓛 (raw (fields_at 𝓤 H q (tys x) zero b o' us) ⊛ all-cells (arrays y ss) (places y ss e' o at) ls')
-        (fields-joined x (arrays y ss) zero o' (places y ss e' o at) ks.0 ls) $ split ! $
+        use2 𝓛 (raw (fields_at 𝓤 H q (tys x) zero b o' us) ⊛ all_cells (arrays y ss) (places y ss e' o at) ls')
+        (fields_joined x (arrays y ss) zero o' (places y ss e' o at) ks.0 ls) $ split ! $
         -- [the inner fields; the other arrays' cells; what is beside those; the way back]
         move ! (3 ∷ []) $ use1 𝓛 (raw (Way ν (tys x) o' us)) (all_e 𝓤 (Way ν (tys x) o') us) $ move ! (1 ∷ 0 ∷ []) $
         use2 𝓛 (‵ (fat q σ b o' (vstruct us))) (apply∗ 𝓤 (fields_at 𝓤 H q (tys x) zero b o' us) (H.at q σ b o' (vstruct us))) $ move ! (1 ∷ 2 ∷ []) $
-        use2 𝓛 (raw (fields_at 𝓤 H q (tys y) e' b o (vals y ss ks.1 ls')) ⊛ all-cells ss at (after y ss ls')) (fields-joined y ss e' o at ks.1 ls') $
+        use2 𝓛 (raw (fields_at 𝓤 H q (tys y) e' b o (vals y ss ks.1 ls')) ⊛ all_cells ss at (after y ss ls')) (fields_joined y ss e' o at ks.1 ls') $
         split ! $ move ! (2 ∷ 0 ∷ []) $ join ! $ frame ! $ done !
 
     -- what is beside the arrays of a struct at offset o
@@ -160,20 +160,20 @@ module _ {M : Type 1} {𝓤 : Ura M} (𝓛 : Logic 𝓤) (q : Share) (b : ℕ) w
 
     pub apart : (ν : Sym) (y : Layout) (o : ℕ) (ks : Kept y) (ls : Contents (arrays y []))
         → ent 𝓤 (H.at q (ty_struct ν (tys y)) b o (vstruct (vals y [] ks ls)))
-        (mean 𝓛 (all-cells (arrays y []) (places y [] zero o tt) ls ⊛ others ν y o ks))
+        (mean 𝓛 (all_cells (arrays y []) (places y [] zero o tt) ls ⊛ others ν y o ks))
     apart ν y o ks ls =
         qed 𝓛 (‵ (fat q (ty_struct ν (tys y)) b o (vstruct (vals y [] ks ls))) ∷ []) ∵
         use1 𝓛 (raw (fields_at 𝓤 H q (tys y) zero b o (vals y [] ks ls)) ⊛ raw (all 𝓤 (Way ν (tys y) o))) (𝓛.laws.at_fields q ν (tys y) b o (vals y [] ks ls)) $
         split ! $ nothing ! $ move ! (1 ∷ 0 ∷ []) $
-        use2 𝓛 (all-cells (arrays y []) (places y [] zero o tt) ls ⊛ rest y zero o ks) (fields-apart y [] zero o tt ks ls) $ split ! $ frame ! $ move ! (1 ∷ 0 ∷ []) $ done !
+        use2 𝓛 (all_cells (arrays y []) (places y [] zero o tt) ls ⊛ rest y zero o ks) (fields_apart y [] zero o tt ks ls) $ split ! $ frame ! $ move ! (1 ∷ 0 ∷ []) $ done !
 
     pub joined : (ν : Sym) (y : Layout) (o : ℕ) (ks : Kept y) (ls : Contents (arrays y []))
-        → ent 𝓤 (mean 𝓛 (all-cells (arrays y []) (places y [] zero o tt) ls ⊛ others ν y o ks))
+        → ent 𝓤 (mean 𝓛 (all_cells (arrays y []) (places y [] zero o tt) ls ⊛ others ν y o ks))
         (H.at q (ty_struct ν (tys y)) b o (vstruct (vals y [] ks ls)))
     joined ν y o ks ls =
         let us = vals y [] ks ls in
-        qed 𝓛 ((all-cells (arrays y []) (places y [] zero o tt) ls ⊛ (raw (all 𝓤 (Way ν (tys y) o)) ⊛ rest y zero o ks)) ∷ []) ∵ split ! $ move ! (1 ∷ []) $ split ! $
-        move ! (2 ∷ 1 ∷ []) $ use2 𝓛 (raw (fields_at 𝓤 H q (tys y) zero b o us) ⊛ ‵ ftrue) (fields-joined y [] zero o tt ks ls) $ split ! $ move ! (2 ∷ []) $
+        qed 𝓛 ((all_cells (arrays y []) (places y [] zero o tt) ls ⊛ (raw (all 𝓤 (Way ν (tys y) o)) ⊛ rest y zero o ks)) ∷ []) ∵ split ! $ move ! (1 ∷ []) $ split ! $
+        move ! (2 ∷ 1 ∷ []) $ use2 𝓛 (raw (fields_at 𝓤 H q (tys y) zero b o us) ⊛ ‵ ftrue) (fields_joined y [] zero o tt ks ls) $ split ! $ move ! (2 ∷ []) $
         use1 𝓛 (raw (Way ν (tys y) o us)) (all_e 𝓤 (Way ν (tys y) o) us) $ move ! (1 ∷ 0 ∷ []) $
         use2 𝓛 (‵ (fat q (ty_struct ν (tys y)) b o (vstruct us))) (apply∗ 𝓤 (fields_at 𝓤 H q (tys y) zero b o us) (H.at q (ty_struct ν (tys y)) b o (vstruct us))) $
         move ! (0 ∷ []) $ keep ! (0 ∷ []) $ done !
@@ -194,13 +194,13 @@ abbrev far : ℕ → ℕ → ℕ
 far zero k = k
 far (suc j) k = far j (suc k)
 
-far-suc : (j k : ℕ) → far j (suc k) ≡ suc (far j k)
-far-suc zero k = refl
-far-suc (suc j) k = far-suc j (suc k)
+far_suc : (j k : ℕ) → far j (suc k) ≡ suc (far j k)
+far_suc zero k = refl
+far_suc (suc j) k = far_suc j (suc k)
 
-far-zero : (j : ℕ) → far j zero ≡ j
-far-zero zero = refl
-far-zero (suc j) = far-suc j zero ∙ ap suc (far-zero j)
+far_zero : (j : ℕ) → far j zero ≡ j
+far_zero zero = refl
+far_zero (suc j) = far_suc j zero ∙ ap suc (far_zero j)
 
 -- each path leads from a spot to its array
 module _ {M : Type 1} {𝓤 : Ura M} (K : Type 0) (𝓛 : Logic 𝓤) (Γ : List (Item 𝓤)) (E : Env 𝓤 𝓛.H) (root : Spot 𝓤 𝓛.H) (b : ℕ) where
@@ -225,9 +225,9 @@ module _ {M : Type 1} {𝓤 : Ura M} {𝓛 : Logic 𝓤} {K : Type 0} {Γ : List
       let σ = ty_struct μ (tys x) in
       let e' = next (align σ) e + size σ in
       lead t x (arrays y ss) (λ st. into (field k ∷ st)) zero zero (o + next (align σ) e) μ (tys x) (paths y ss into (suc k) ps) (places y ss e' o at)
-      (λ st sp w. go (field k ∷ st) sp (fld t (is zero) w)) (λ j. ap (field_at zero (tys x)) (far-zero j))
+      (λ st sp w. go (field k ∷ st) sp (fld t (is zero) w)) (λ j. ap (field_at zero (tys x)) (far_zero j))
       (lead t y ss into (suc k) e' o ν τs ps at go (λ j. is (suc j)) ws)
 
 module _ {M : Type 1} {𝓤 : Ura M} (K : Type 0) (𝓛 : Logic 𝓤) (Γ : List (Item 𝓤)) (E : Env 𝓤 𝓛.H) where
   pub leads : K → (ν : Sym) (y : Layout) (b o : ℕ) → Lead K 𝓛 Γ E (ty_struct ν (tys y), b, o) b (arrays y []) (paths y [] (λ st. st) zero tt) (places y [] zero o tt)
-  leads t ν y b o = lead (ty_struct ν (tys y), b, o) b t y [] (λ st. st) zero zero o ν (tys y) tt tt (λ st sp w. w) (λ j. ap (field_at zero (tys y)) (far-zero j)) tt
+  leads t ν y b o = lead (ty_struct ν (tys y), b, o) b t y [] (λ st. st) zero zero o ν (tys y) tt tt (λ st sp w. w) (λ j. ap (field_at zero (tys y)) (far_zero j)) tt

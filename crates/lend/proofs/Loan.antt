@@ -71,9 +71,9 @@ owns_as mutable κ R = (MutRef (named 0) κ R).own_val
 owns_as shared κ R = (ShrRef (named 0) κ R).own_val
 
 -- what a contract learns of it at exit, if its lifetime is one that the contract speaks of
-abbrev pub exits-as : Mode → (R : RattleType) → Bool → Exit (MutBor R.Denot)
-exits-as mutable R kept = if_kept kept (leaves (λ x. R.Denot) (λ x w. fres x.ghost_name (R.coded.code w)) (MutBor R.Denot) at_last) (only_seen gone)
-exits-as shared R kept = unchanged
+abbrev pub exits_as : Mode → (R : RattleType) → Bool → Exit (MutBor R.Denot)
+exits_as mutable R kept = if_kept kept (leaves (λ x. R.Denot) (λ x w. fres x.ghost_name (R.coded.code w)) (MutBor R.Denot) at_last) (only_seen gone)
+exits_as shared R kept = unchanged
 
 abbrev pub ref_ty : Mode → Lifetime → RattleType → Ty
 ref_ty m ℓ R = ty_ref ℓ (mutability m) (pointee R.written)
@@ -85,19 +85,19 @@ Ref m ℓ κ R = record {
   written = wrote (ref_ty m ℓ R);
   reaches = (R.written, R.mir) ∷ R.reaches;
   own_val = owns_as m κ R;
-  exit = λ k. exits-as m R (k ℓ);
+  exit = λ k. exits_as m R (k ℓ);
   coded = shr_coded R.coded;
 }
 
 -- the list at exit: what is bound for it, what is said of that, and as a clause sees it
 abbrev pub LastOf : Mode → (R : RattleType) → Bor R.Denot → Type 0
-LastOf m R x = Last (exits-as m R true) x
+LastOf m R x = Last (exits_as m R true) x
 
 abbrev pub leaving : (m : Mode) (R : RattleType) (x : Bor R.Denot) → LastOf m R x → Fml
-leaving m R x w = left (exits-as m R true) x w
+leaving m R x w = left (exits_as m R true) x w
 
 abbrev pub SeenOf : Mode → RattleType → Type 0
-SeenOf m R = Seen (exits-as m R true)
+SeenOf m R = Seen (exits_as m R true)
 
 abbrev pub seen : (m : Mode) (R : RattleType) → SeenOf m R → R.Denot
 seen mutable R x = x.now
@@ -108,9 +108,9 @@ abbrev pub Fits : Mode → Share → Type 0
 Fits mutable q = q ≡ full_share
 Fits shared q = Unit {0}
 
-pub whole-fits : (m : Mode) → Fits m full_share
-whole-fits mutable = refl
-whole-fits shared = tt
+pub whole_fits : (m : Mode) → Fits m full_share
+whole_fits mutable = refl
+whole_fits shared = tt
 
 -- the lender's part
 abbrev pub lender : Mode → Share → Lft → (s : Stretch) → Elements s → ℕ → ℕ → GName → Fml
@@ -134,10 +134,10 @@ abbrev pub change : (m : Mode) (s : Stretch) (x : Bor (Elements s)) → LastOf m
 change mutable s x w = w
 change shared s x w = tt
 
-pub seen-settled : (m : Mode) (s : Stretch) (b o : ℕ) (δ : GName) (l : Elements s) (w : LastOf m (Row s) (to s b o δ l))
-    → seen m (Row s) (see (exits-as m (Row s) true) (to s b o δ l) w) ≡ settled m s l (change m s (to s b o δ l) w)
-seen-settled mutable s b o δ l w = refl
-seen-settled shared s b o δ l w = map-id l
+pub seen_settled : (m : Mode) (s : Stretch) (b o : ℕ) (δ : GName) (l : Elements s) (w : LastOf m (Row s) (to s b o δ l))
+    → seen m (Row s) (see (exits_as m (Row s) true) (to s b o δ l) w) ≡ settled m s l (change m s (to s b o δ l) w)
+seen_settled mutable s b o δ l w = refl
+seen_settled shared s b o δ l w = map-id l
 
 abbrev pub Shared : Mode → Type 0
 Shared mutable = ⊥
@@ -147,9 +147,9 @@ pub settled_same : (m : Mode) → Shared m → (s : Stretch) (l : Elements s) (z
 settled_same mutable is s l z = absurd is
 settled_same shared is s l z = refl
 
-pub shared-fits : (m : Mode) → Shared m → (q : Share) → Fits m q
-shared-fits mutable is q = absurd is
-shared-fits shared is q = tt
+pub shared_fits : (m : Mode) → Shared m → (q : Share) → Fits m q
+shared_fits mutable is q = absurd is
+shared_fits shared is q = tt
 
 module _ {M : Type 1} {𝓤 : Ura M} (𝓛 : Logic 𝓤) (q : Share) (s : Stretch) (l : Elements s) (b o : ℕ) where
   open 𝓛 use {H}
@@ -188,9 +188,9 @@ module _ {M : Type 1} {𝓤 : Ura M} {𝓛 : Logic 𝓤} {K : Type 0} {Γ : List
       (lends_shr 𝓛 (Row s) (named 0) (ν ∷ []) q (up l) b o) $ await t z $ pick t (λ δ. split t $ move t (2 ∷ []) $ next ν δ))
 
   -- the part that lies there is the cell again
-  found-again : K → {G : Goal 𝓤 H} (q : Share) (s : Stretch) (l : Elements s) (b o : ℕ)
+  found_again : K → {G : Goal 𝓤 H} (q : Share) (s : Stretch) (l : Elements s) (b o : ℕ)
       → (Sound s l → Seq K 𝓛 (‵ (cell q s b o l) ∷ Γ) G) → Seq K 𝓛 (‵ (part_at (Row s) q (up l) b o) ∷ Γ) G
-  found-again t q s l b o next =
+  found_again t q s l b o next =
       use1 𝓛 (given (Sound s l) (‵ (cell q s b o l))) (lies_out 𝓛 q s (up l) b o) $ learn t next
 
   -- the lifetime is ended, and the cell comes back at the last list
@@ -201,6 +201,6 @@ module _ {M : Type 1} {𝓤 : Ura M} {𝓛 : Logic 𝓤} {K : Type 0} {Γ : List
   backs t z mutable q fits s l b o ν δ w next =
       lft_end t z $ use3 𝓛 (later (‵ ((mem (Row s)).own_at w b o))) (ref_back 𝓛 (Row s) (ν ∷ []) δ w b o) $ await t z $
       rewrite t 0 (λ (ys : Elements s). ‵ (part_at (Row s) full_share ys b o)) (sym (map-id w)) refl $
-      found-again t full_share s w b o (λ g. rewrite t 0 (λ (p : Share). ‵ (cell p s b o w)) (sym fits) refl $ next g)
+      found_again t full_share s w b o (λ g. rewrite t 0 (λ (p : Share). ‵ (cell p s b o w)) (sym fits) refl $ next g)
   backs t z shared q fits s l b o ν δ w next =
-      lft_end t z $ lent_back t z $ move t (1 ∷ []) $ drop t $ found-again t q s l b o next
+      lft_end t z $ lent_back t z $ move t (1 ∷ []) $ drop t $ found_again t q s l b o next

@@ -15,7 +15,7 @@ use denote.RattleType.{RattleType, Denots, Valss, flat, owns}
 use denote.Signature.{Slot, plain, types_at}
 use denote.Triple.End.{Fins, Outs, outs, lasts_of, all}
 use denote.Exit.{yes}
-use Rattle.lend.proofs.Loan.{Stretch, Row, Elements, Sound, cell, Mode, owns_as, ref_ty, Ref, LastOf, leaving, seen, Fits, whole-fits, lender, to, Change, settled, change, seen-settled, Shared, settled_same, shared-fits, lends, backs}
+use Rattle.lend.proofs.Loan.{Stretch, Row, Elements, Sound, cell, Mode, owns_as, ref_ty, Ref, LastOf, leaving, seen, Fits, whole_fits, lender, to, Change, settled, change, seen_settled, Shared, settled_same, shared_fits, lends, backs}
 
 pub record Loan : Type 2 where
   pub mode : Mode
@@ -34,9 +34,9 @@ abbrev pub AllFit : Share → List Loan → Type 0
 AllFit q [] = Unit {0}
 AllFit q (f ∷ fs) = Fits f.mode q × AllFit q fs
 
-pub all-of-the-whole : (fs : List Loan) → AllFit full_share fs
-all-of-the-whole [] = tt
-all-of-the-whole (f ∷ fs) = (whole-fits f.mode, all-of-the-whole fs)
+pub all_of_the_whole : (fs : List Loan) → AllFit full_share fs
+all_of_the_whole [] = tt
+all_of_the_whole (f ∷ fs) = (whole_fits f.mode, all_of_the_whole fs)
 
 -- where each lies in the struct's block; and the lifetime and the ghost name of each reference
 abbrev pub Offsets : List Loan → Type 0
@@ -63,18 +63,18 @@ abbrev pub others : (fs : List Loan) (m : ℕ) → Lfts (count fs m) → Lfts m
 others [] m κs = κs
 others (f ∷ fs) m κs = others fs m κs.1
 
-pub others-are : (fs : List Loan) (m : ℕ) (ns : Names fs) (κs : Lfts m) → others fs m (lfts fs m ns κs) ≡ κs
-others-are [] m ns κs = refl
-others-are (f ∷ fs) m ns κs = others-are fs m ns.1 κs
+pub others_are : (fs : List Loan) (m : ℕ) (ns : Names fs) (κs : Lfts m) → others fs m (lfts fs m ns κs) ≡ κs
+others_are [] m ns κs = refl
+others_are (f ∷ fs) m ns κs = others_are fs m ns.1 κs
 
 -- the references' machine values, before others, and the types of the locals that hold them
 abbrev pub pointers : (fs : List Loan) → ℕ → Offsets fs → List Val → List Val
 pointers [] b at vs = vs
 pointers (f ∷ fs) b at vs = vptr b at.0 ∷ pointers fs b at.1 vs
 
-abbrev pub refTys : List Loan → List Ty
-refTys [] = []
-refTys (f ∷ fs) = ref_ty f.mode erased (Row f.stretch) ∷ refTys fs
+abbrev pub ref_tys : List Loan → List Ty
+ref_tys [] = []
+ref_tys (f ∷ fs) = ref_ty f.mode erased (Row f.stretch) ∷ ref_tys fs
 
 -- ---- what is lent, and what is left meanwhile
 abbrev pub Ends : (fs : List Loan) → Names fs → ℕ → Offsets fs → Lists fs → Type 0
@@ -96,17 +96,17 @@ changes [] ns b at ls ws = tt
 changes (f ∷ fs) ns b at ls ws =
     (change f.mode f.stretch (to f.stretch b at.0 ns.0.1 ls.0) ws.0, changes fs ns.1 b at.1 ls.1 ws.1)
 
-abbrev pub All-shared : List Loan → Type 0
-All-shared [] = Unit {0}
-All-shared (f ∷ fs) = Shared f.mode × All-shared fs
+abbrev pub AllShared : List Loan → Type 0
+AllShared [] = Unit {0}
+AllShared (f ∷ fs) = Shared f.mode × AllShared fs
 
-pub after_same : (fs : List Loan) → All-shared fs → (ls : Lists fs) (zs : Changes fs) → after fs ls zs ≡ ls
+pub after_same : (fs : List Loan) → AllShared fs → (ls : Lists fs) (zs : Changes fs) → after fs ls zs ≡ ls
 after_same [] is ls zs = refl
 after_same (f ∷ fs) is ls zs = λ i. (settled_same f.mode is.0 f.stretch ls.0 zs.0 i, after_same fs is.1 ls.1 zs.1 i)
 
-pub all-of-a-share : (fs : List Loan) → All-shared fs → (q : Share) → AllFit q fs
-all-of-a-share [] is q = tt
-all-of-a-share (f ∷ fs) is q = (shared-fits f.mode is.0 q, all-of-a-share fs is.1 q)
+pub all_of_a_share : (fs : List Loan) → AllShared fs → (q : Share) → AllFit q fs
+all_of_a_share [] is q = tt
+all_of_a_share (f ∷ fs) is q = (shared_fits f.mode is.0 q, all_of_a_share fs is.1 q)
 
 abbrev pub Owned : (fs : List Loan) → Names fs → ℕ → Offsets fs → Lists fs → Fml → Fml
 Owned [] ns b at ls P = P
@@ -137,55 +137,55 @@ module _ {M : Type 1} {𝓤 : Ura M} {𝓛 : Logic 𝓤} {K : Type 0} where
   -- the cells are lent, beside the tokens r of other lifetimes and what other parameters own, P
   open 𝓛 use {H}
 
-  pub lends-all : K → {Γ : List (Item 𝓤)} {G : Goal 𝓤 H} → Soaks G → (q : Share) (fs : List Loan) → AllFit q fs → (b : ℕ) (at : Offsets fs) (ls : Lists fs)
+  pub lends_all : K → {Γ : List (Item 𝓤)} {G : Goal 𝓤 H} → Soaks G → (q : Share) (fs : List Loan) → AllFit q fs → (b : ℕ) (at : Offsets fs) (ls : Lists fs)
       → Sounds fs ls → {r : Item 𝓤} {P : Fml}
       → ((ns : Names fs) → Seq K 𝓛 (tokens fs ns r ∷ ‵ (Owned fs ns b at ls P) ∷ lenders q fs ns b at ls ∷ Γ) G)
       → Seq K 𝓛 (cells q fs b at ls ∷ r ∷ ‵ P ∷ Γ) G
-  lends-all t z q [] fit b at ls g next = move t (1 ∷ 2 ∷ []) $ next tt
-  lends-all t z q (f ∷ fs) fit b at ls g next =
+  lends_all t z q [] fit b at ls g next = move t (1 ∷ 2 ∷ []) $ next tt
+  lends_all t z q (f ∷ fs) fit b at ls g next =
       split t $ lends t z f.mode q fit.0 f.stretch ls.0 b at.0 g.0 (λ ν δ.
-      move t (3 ∷ 4 ∷ 5 ∷ []) $ lends-all t z q fs fit.1 b at.1 ls.1 g.1 (λ ns.
+      move t (3 ∷ 4 ∷ 5 ∷ []) $ lends_all t z q fs fit.1 b at.1 ls.1 g.1 (λ ns.
       -- [the tokens; what the others own; the lenders' parts; the token; what the first owns; the lender's part]
       move t (5 ∷ 2 ∷ []) $ join t $ move t (4 ∷ 2 ∷ []) $ fjoin t $ move t (3 ∷ 2 ∷ []) $ join t $ next ((ν, δ), ns)))
 
   -- they come back
-  pub backs-all : K → {Γ : List (Item 𝓤)} {G : Goal 𝓤 H} → Soaks G → (q : Share) (fs : List Loan) → AllFit q fs → (b : ℕ) (at : Offsets fs) (ls : Lists fs)
+  pub backs_all : K → {Γ : List (Item 𝓤)} {G : Goal 𝓤 H} → Soaks G → (q : Share) (fs : List Loan) → AllFit q fs → (b : ℕ) (at : Offsets fs) (ls : Lists fs)
       (ns : Names fs) (ws : Ends fs ns b at ls) {r : Item 𝓤} {P : Fml}
       → (Sounds fs (after fs ls (changes fs ns b at ls ws)) → Seq K 𝓛 (cells q fs b at (after fs ls (changes fs ns b at ls ws)) ∷ r ∷ ‵ P ∷ Γ) G)
       → Seq K 𝓛 (tokens fs ns r ∷ lenders q fs ns b at ls ∷ ‵ (Left fs ns b at ls ws P) ∷ Γ) G
-  backs-all t z q [] fit b at ls ns ws next = move t (1 ∷ 0 ∷ []) $ next tt
-  backs-all t z q (f ∷ fs) fit b at ls ns ws next =
+  backs_all t z q [] fit b at ls ns ws next = move t (1 ∷ 0 ∷ []) $ next tt
+  backs_all t z q (f ∷ fs) fit b at ls ns ws next =
       split t $ move t (2 ∷ []) $ split t $ move t (4 ∷ []) $ fsplit t $ move t (4 ∷ 2 ∷ 0 ∷ []) $
       backs t z f.mode q fit.0 f.stretch ls.0 b at.0 ns.0.0 ns.0.1 ws.0 (λ g.
       -- [the first cell; what is left of the others; the lenders' parts; the tokens]
-      move t (3 ∷ 2 ∷ 1 ∷ []) $ backs-all t z q fs fit.1 b at.1 ls.1 ns.1 ws.1 (λ gs. move t (3 ∷ 0 ∷ []) $ join t $ next (g, gs)))
+      move t (3 ∷ 2 ∷ 1 ∷ []) $ backs_all t z q fs fit.1 b at.1 ls.1 ns.1 ws.1 (λ gs. move t (3 ∷ 0 ∷ []) $ join t $ next (g, gs)))
 
 -- ---- as slots of a signature with n lifetimes, of which `pick` picks theirs and m others, before the slots ss
 module _ (n m : ℕ) where
   abbrev pub Picks : List Loan → Type 0
   Picks fs = Lfts n → Lfts (count fs m)
 
-  abbrev pub slots-on : (fs : List Loan) → ℕ → Picks fs → List (Slot n) → List (Slot n)
-  slots-on [] j pick ss = ss
-  slots-on (f ∷ fs) j pick ss =
-      plain (λ κs. Ref f.mode (named j) (pick κs).0 (Row f.stretch)) ∷ slots-on fs (suc j) (λ κs. (pick κs).1) ss
+  abbrev pub slots_on : (fs : List Loan) → ℕ → Picks fs → List (Slot n) → List (Slot n)
+  slots_on [] j pick ss = ss
+  slots_on (f ∷ fs) j pick ss =
+      plain (λ κs. Ref f.mode (named j) (pick κs).0 (Row f.stretch)) ∷ slots_on fs (suc j) (λ κs. (pick κs).1) ss
 
   module _ (ss : List (Slot n)) (κs : Lfts n) where
     abbrev Types : (fs : List Loan) → ℕ → Picks fs → List RattleType
-    Types fs j pick = types_at {n = n} (slots-on fs j pick ss) κs
+    Types fs j pick = types_at {n = n} (slots_on fs j pick ss) κs
 
     -- the arguments, and their machine values
-    abbrev pub args-on : (fs : List Loan) (j : ℕ) (pick : Picks fs) → Names fs → ℕ → Offsets fs → Lists fs → Denots (types_at {n = n} ss κs) → Denots (Types fs j pick)
-    args-on [] j pick ns b at ls a = a
-    args-on (f ∷ fs) j pick ns b at ls a =
-        (to f.stretch b at.0 ns.0.1 ls.0, args-on fs (suc j) (λ μs. (pick μs).1) ns.1 b at.1 ls.1 a)
+    abbrev pub args_on : (fs : List Loan) (j : ℕ) (pick : Picks fs) → Names fs → ℕ → Offsets fs → Lists fs → Denots (types_at {n = n} ss κs) → Denots (Types fs j pick)
+    args_on [] j pick ns b at ls a = a
+    args_on (f ∷ fs) j pick ns b at ls a =
+        (to f.stretch b at.0 ns.0.1 ls.0, args_on fs (suc j) (λ μs. (pick μs).1) ns.1 b at.1 ls.1 a)
 
-    abbrev pub valss-on : (fs : List Loan) (j : ℕ) (pick : Picks fs) → ℕ → Offsets fs → Valss (types_at {n = n} ss κs) → Valss (Types fs j pick)
-    valss-on [] j pick b at vss = vss
-    valss-on (f ∷ fs) j pick b at vss = (vptr b at.0 ∷ [], valss-on fs (suc j) (λ μs. (pick μs).1) b at.1 vss)
+    abbrev pub valss_on : (fs : List Loan) (j : ℕ) (pick : Picks fs) → ℕ → Offsets fs → Valss (types_at {n = n} ss κs) → Valss (Types fs j pick)
+    valss_on [] j pick b at vss = vss
+    valss_on (f ∷ fs) j pick b at vss = (vptr b at.0 ∷ [], valss_on fs (suc j) (λ μs. (pick μs).1) b at.1 vss)
 
     pub flat_on : (fs : List Loan) (j : ℕ) (pick : Picks fs) (b : ℕ) (at : Offsets fs) (vss : Valss (types_at {n = n} ss κs))
-        → flat (Types fs j pick) (valss-on fs j pick b at vss) ≡ pointers fs b at (flat (types_at {n = n} ss κs) vss)
+        → flat (Types fs j pick) (valss_on fs j pick b at vss) ≡ pointers fs b at (flat (types_at {n = n} ss κs) vss)
     flat_on [] j pick b at vss = refl
     flat_on (f ∷ fs) j pick b at vss = ap (λ (vs : List Val). vptr b at.0 ∷ vs) (flat_on fs (suc j) (λ μs. (pick μs).1) b at.1 vss)
 
@@ -194,62 +194,62 @@ module _ (n m : ℕ) where
     nows [] j pick a = tt
     nows (f ∷ fs) j pick a = (a.0.now, nows fs (suc j) (λ μs. (pick μs).1) a.1)
 
-    abbrev pub after-args : (fs : List Loan) (j : ℕ) (pick : Picks fs) → Denots (Types fs j pick) → Denots (types_at {n = n} ss κs)
-    after-args [] j pick a = a
-    after-args (f ∷ fs) j pick a = after-args fs (suc j) (λ μs. (pick μs).1) a.1
+    abbrev pub after_args : (fs : List Loan) (j : ℕ) (pick : Picks fs) → Denots (Types fs j pick) → Denots (types_at {n = n} ss κs)
+    after_args [] j pick a = a
+    after_args (f ∷ fs) j pick a = after_args fs (suc j) (λ μs. (pick μs).1) a.1
 
-    pub nows-are : (fs : List Loan) (j : ℕ) (pick : Picks fs) (ns : Names fs) (b : ℕ) (at : Offsets fs) (ls : Lists fs) (a : Denots (types_at {n = n} ss κs))
-        → nows fs j pick (args-on fs j pick ns b at ls a) ≡ ls
-    nows-are [] j pick ns b at ls a = refl
-    nows-are (f ∷ fs) j pick ns b at ls a = λ i. (map-id ls.0 i, nows-are fs (suc j) (λ μs. (pick μs).1) ns.1 b at.1 ls.1 a i)
+    pub nows_are : (fs : List Loan) (j : ℕ) (pick : Picks fs) (ns : Names fs) (b : ℕ) (at : Offsets fs) (ls : Lists fs) (a : Denots (types_at {n = n} ss κs))
+        → nows fs j pick (args_on fs j pick ns b at ls a) ≡ ls
+    nows_are [] j pick ns b at ls a = refl
+    nows_are (f ∷ fs) j pick ns b at ls a = λ i. (map-id ls.0 i, nows_are fs (suc j) (λ μs. (pick μs).1) ns.1 b at.1 ls.1 a i)
 
-    pub after-are : (fs : List Loan) (j : ℕ) (pick : Picks fs) (ns : Names fs) (b : ℕ) (at : Offsets fs) (ls : Lists fs) (a : Denots (types_at {n = n} ss κs))
-        → after-args fs j pick (args-on fs j pick ns b at ls a) ≡ a
-    after-are [] j pick ns b at ls a = refl
-    after-are (f ∷ fs) j pick ns b at ls a = after-are fs (suc j) (λ μs. (pick μs).1) ns.1 b at.1 ls.1 a
+    pub after_are : (fs : List Loan) (j : ℕ) (pick : Picks fs) (ns : Names fs) (b : ℕ) (at : Offsets fs) (ls : Lists fs) (a : Denots (types_at {n = n} ss κs))
+        → after_args fs j pick (args_on fs j pick ns b at ls a) ≡ a
+    after_are [] j pick ns b at ls a = refl
+    after_are (f ∷ fs) j pick ns b at ls a = after_are fs (suc j) (λ μs. (pick μs).1) ns.1 b at.1 ls.1 a
 
     -- the lists at exit
-    abbrev pub seens : (fs : List Loan) (j : ℕ) (pick : Picks fs) → Outs κs (slots-on fs j pick ss) (all yes (slots-on fs j pick ss)) → Lists fs
+    abbrev pub seens : (fs : List Loan) (j : ℕ) (pick : Picks fs) → Outs κs (slots_on fs j pick ss) (all yes (slots_on fs j pick ss)) → Lists fs
     seens [] j pick e = tt
     seens (f ∷ fs) j pick e = (seen f.mode (Row f.stretch) e.0, seens fs (suc j) (λ μs. (pick μs).1) e.1)
 
     module _ (b : ℕ) (a : Denots (types_at {n = n} ss κs)) where
       abbrev pub Bound : (fs : List Loan) (j : ℕ) (pick : Picks fs) → Names fs → Offsets fs → Lists fs → Type 0
-      Bound fs j pick ns at ls = Fins κs (slots-on fs j pick ss) (all yes (slots-on fs j pick ss)) (args-on fs j pick ns b at ls a)
+      Bound fs j pick ns at ls = Fins κs (slots_on fs j pick ss) (all yes (slots_on fs j pick ss)) (args_on fs j pick ns b at ls a)
 
       abbrev pub ends_on : (fs : List Loan) (j : ℕ) (pick : Picks fs) (ns : Names fs) (at : Offsets fs) (ls : Lists fs) → Bound fs j pick ns at ls → Ends fs ns b at ls
       ends_on [] j pick ns at ls ws = tt
       ends_on (f ∷ fs) j pick ns at ls ws = (ws.0, ends_on fs (suc j) (λ μs. (pick μs).1) ns.1 at.1 ls.1 ws.1)
 
-      abbrev pub after-ends : (fs : List Loan) (j : ℕ) (pick : Picks fs) (ns : Names fs) (at : Offsets fs) (ls : Lists fs) → Bound fs j pick ns at ls
+      abbrev pub after_ends : (fs : List Loan) (j : ℕ) (pick : Picks fs) (ns : Names fs) (at : Offsets fs) (ls : Lists fs) → Bound fs j pick ns at ls
           → Fins κs ss (all yes ss) a
-      after-ends [] j pick ns at ls ws = ws
-      after-ends (f ∷ fs) j pick ns at ls ws = after-ends fs (suc j) (λ μs. (pick μs).1) ns.1 at.1 ls.1 ws.1
+      after_ends [] j pick ns at ls ws = ws
+      after_ends (f ∷ fs) j pick ns at ls ws = after_ends fs (suc j) (λ μs. (pick μs).1) ns.1 at.1 ls.1 ws.1
 
       pub seens_are : (fs : List Loan) (j : ℕ) (pick : Picks fs) (ns : Names fs) (at : Offsets fs) (ls : Lists fs) (ws : Bound fs j pick ns at ls)
-          → seens fs j pick (outs κs (slots-on fs j pick ss) (all yes (slots-on fs j pick ss)) (args-on fs j pick ns b at ls a) ws)
+          → seens fs j pick (outs κs (slots_on fs j pick ss) (all yes (slots_on fs j pick ss)) (args_on fs j pick ns b at ls a) ws)
           ≡ after fs ls (changes fs ns b at ls (ends_on fs j pick ns at ls ws))
       seens_are [] j pick ns at ls ws = refl
       seens_are (f ∷ fs) j pick ns at ls ws =
           λ i. (
-            seen-settled f.mode f.stretch b at.0 ns.0.1 ls.0 ws.0 i,
+            seen_settled f.mode f.stretch b at.0 ns.0.1 ls.0 ws.0 i,
             seens_are fs (suc j) (λ μs. (pick μs).1) ns.1 at.1 ls.1 ws.1 i,
           )
 
       -- what is said of what is bound
-      pub left-on : (fs : List Loan) (j : ℕ) (pick : Picks fs) (ns : Names fs) (at : Offsets fs) (ls : Lists fs) (ws : Bound fs j pick ns at ls)
-          → lasts_of κs (slots-on fs j pick ss) (all yes (slots-on fs j pick ss)) (args-on fs j pick ns b at ls a) ws
-          ≡ Left fs ns b at ls (ends_on fs j pick ns at ls ws) (lasts_of κs ss (all yes ss) a (after-ends fs j pick ns at ls ws))
-      left-on [] j pick ns at ls ws = refl
-      left-on (f ∷ fs) j pick ns at ls ws =
+      pub left_on : (fs : List Loan) (j : ℕ) (pick : Picks fs) (ns : Names fs) (at : Offsets fs) (ls : Lists fs) (ws : Bound fs j pick ns at ls)
+          → lasts_of κs (slots_on fs j pick ss) (all yes (slots_on fs j pick ss)) (args_on fs j pick ns b at ls a) ws
+          ≡ Left fs ns b at ls (ends_on fs j pick ns at ls ws) (lasts_of κs ss (all yes ss) a (after_ends fs j pick ns at ls ws))
+      left_on [] j pick ns at ls ws = refl
+      left_on (f ∷ fs) j pick ns at ls ws =
           ap (fsep (leaving f.mode (Row f.stretch) (to f.stretch b at.0 ns.0.1 ls.0) ws.0))
-          (left-on fs (suc j) (λ μs. (pick μs).1) ns.1 at.1 ls.1 ws.1)
+          (left_on fs (suc j) (λ μs. (pick μs).1) ns.1 at.1 ls.1 ws.1)
 
       -- what the arguments own, at the lifetimes that were made
-      pub owned-on : (fs : List Loan) (j : ℕ) (pick : Picks fs) (ns : Names fs) (at : Offsets fs) (ls : Lists fs) (vss : Valss (types_at {n = n} ss κs)) (μs : Lfts m)
+      pub owned_on : (fs : List Loan) (j : ℕ) (pick : Picks fs) (ns : Names fs) (at : Offsets fs) (ls : Lists fs) (vss : Valss (types_at {n = n} ss κs)) (μs : Lfts m)
           → lfts fs m ns μs ≡ pick κs
-          → Owned fs ns b at ls (owns (types_at {n = n} ss κs) a vss) ≡ owns (Types fs j pick) (args-on fs j pick ns b at ls a) (valss-on fs j pick b at vss)
-      owned-on [] j pick ns at ls vss μs e = refl
-      owned-on (f ∷ fs) j pick ns at ls vss μs e =
+          → Owned fs ns b at ls (owns (types_at {n = n} ss κs) a vss) ≡ owns (Types fs j pick) (args_on fs j pick ns b at ls a) (valss_on fs j pick b at vss)
+      owned_on [] j pick ns at ls vss μs e = refl
+      owned_on (f ∷ fs) j pick ns at ls vss μs e =
           λ i. fsep (owns_as f.mode (e i).0 (Row f.stretch) (to f.stretch b at.0 ns.0.1 ls.0) (vptr b at.0 ∷ []))
-          (owned-on fs (suc j) (λ ρs. (pick ρs).1) ns.1 at.1 ls.1 vss μs (λ k. (e k).1) i)
+          (owned_on fs (suc j) (λ ρs. (pick ρs).1) ns.1 at.1 ls.1 vss μs (λ k. (e k).1) i)

@@ -122,13 +122,13 @@ abbrev pub lifetimes : List Param → ℕ
 lifetimes [] = 0
 lifetimes (p ∷ ps) = plus p.takes (lifetimes ps)
 
-abbrev head-lfts : (k m : ℕ) → Lfts (plus k m) → Lfts k
-head-lfts zero m κs = tt
-head-lfts (suc k) m κs = (κs.0, head-lfts k m κs.1)
+abbrev head_lfts : (k m : ℕ) → Lfts (plus k m) → Lfts k
+head_lfts zero m κs = tt
+head_lfts (suc k) m κs = (κs.0, head_lfts k m κs.1)
 
-abbrev tail-lfts : (k m : ℕ) → Lfts (plus k m) → Lfts m
-tail-lfts zero m κs = κs
-tail-lfts (suc k) m κs = tail-lfts k m κs.1
+abbrev tail_lfts : (k m : ℕ) → Lfts (plus k m) → Lfts m
+tail_lfts zero m κs = κs
+tail_lfts (suc k) m κs = tail_lfts k m κs.1
 
 -- the data, their machine values, and the machine types where the first lifetime is the j-th
 abbrev pub Data : List Param → Type 0
@@ -149,10 +149,10 @@ module _ (n : ℕ) where
   Picks ps = Lfts n → Lfts (lifetimes ps)
 
   abbrev head_of : (p : Param) (ps : List Param) → Picks (p ∷ ps) → Lfts n → Lfts p.takes
-  head_of p ps pick κs = head-lfts p.takes (lifetimes ps) (pick κs)
+  head_of p ps pick κs = head_lfts p.takes (lifetimes ps) (pick κs)
 
   abbrev tail_of : (p : Param) (ps : List Param) → Picks (p ∷ ps) → Picks ps
-  tail_of p ps pick κs = tail-lfts p.takes (lifetimes ps) (pick κs)
+  tail_of p ps pick κs = tail_lfts p.takes (lifetimes ps) (pick κs)
 
   abbrev pub slots : (ps : List Param) → ℕ → Picks ps → List (Slot n)
   slots [] j pick = []
@@ -185,10 +185,10 @@ module _ (n : ℕ) where
     none [] j pick a = tt
     none (p ∷ ps) j pick a = (tt, none ps (plus p.takes j) (tail_of p ps pick) a.1)
 
-    abbrev pub none-fit : (ps : List Param) (j : ℕ) (pick : Picks ps) (a : Denots (Types ps j pick))
+    abbrev pub none_fit : (ps : List Param) (j : ℕ) (pick : Picks ps) (a : Denots (Types ps j pick))
         → fits_of κs (slots ps j pick) (all yes (slots ps j pick)) (stays ps j pick) a (none ps j pick a)
-    none-fit [] j pick a = tt
-    none-fit (p ∷ ps) j pick a = (tt, none-fit ps (plus p.takes j) (tail_of p ps pick) a.1)
+    none_fit [] j pick a = tt
+    none_fit (p ∷ ps) j pick a = (tt, none_fit ps (plus p.takes j) (tail_of p ps pick) a.1)
 
     -- the data of the arguments, and arguments of the data
     abbrev pub data_of : (ps : List Param) (j : ℕ) (pick : Picks ps) → Denots (Types ps j pick) → Data ps
@@ -199,9 +199,9 @@ module _ (n : ℕ) where
     args_of [] j pick x = tt
     args_of (p ∷ ps) j pick x = (x.0, args_of ps (plus p.takes j) (tail_of p ps pick) x.1)
 
-    pub data-args : (ps : List Param) (j : ℕ) (pick : Picks ps) (x : Data ps) → data_of ps j pick (args_of ps j pick x) ≡ x
-    data-args [] j pick x = refl
-    data-args (p ∷ ps) j pick x = λ i. (x.0, data-args ps (plus p.takes j) (tail_of p ps pick) x.1 i)
+    pub data_args : (ps : List Param) (j : ℕ) (pick : Picks ps) (x : Data ps) → data_of ps j pick (args_of ps j pick x) ≡ x
+    data_args [] j pick x = refl
+    data_args (p ∷ ps) j pick x = λ i. (x.0, data_args ps (plus p.takes j) (tail_of p ps pick) x.1 i)
 
     -- their machine values, one list for each and in a row
     abbrev pub lists : (ps : List Param) (j : ℕ) (pick : Picks ps) → Denots (Types ps j pick) → Valss (Types ps j pick)
@@ -212,11 +212,11 @@ module _ (n : ℕ) where
     in_a_row [] j pick a = refl
     in_a_row (p ∷ ps) j pick a = ap (λ (vs : List Val). p.val a.0 ∷ vs) (in_a_row ps (plus p.takes j) (tail_of p ps pick) a.1)
 
-    pub are-typed : (ps : List Param) (j : ℕ) (pick : Picks ps) (a : Denots (Types ps j pick))
+    pub are_typed : (ps : List Param) (j : ℕ) (pick : Picks ps) (a : Denots (Types ps j pick))
         → Are (Types ps j pick) (Ises (Types ps j pick)) a (lists ps j pick a) → Typed (tys ps j) (values ps (data_of ps j pick a))
-    are-typed [] j pick a are = tt
-    are-typed (p ∷ ps) j pick a are =
-        (p.typed (head_of p ps pick κs) a.0 are.0 j, are-typed ps (plus p.takes j) (tail_of p ps pick) a.1 are.1)
+    are_typed [] j pick a are = tt
+    are_typed (p ∷ ps) j pick a are =
+        (p.typed (head_of p ps pick κs) a.0 are.0 j, are_typed ps (plus p.takes j) (tail_of p ps pick) a.1 are.1)
 
     -- what they own, and what is still had of them at exit
     abbrev pub Owned : (ps : List Param) (j : ℕ) (pick : Picks ps) → Denots (Types ps j pick) → Fml
@@ -237,24 +237,24 @@ module _ {M : Type 1} {𝓤 : Ura M} (𝓛 : Logic 𝓤) (n m : ℕ) (κs : Lfts
       qed 𝓛 (‵ (fsep P O) ∷ []) ∵ fsplit ! $ use1 𝓛 (‵ (fsep P' P)) twice $ fsplit ! $ move ! (2 ∷ []) $ use1 𝓛 (‵ (fsep Q L)) rest $ fsplit ! $
       move ! (2 ∷ 0 ∷ 3 ∷ 1 ∷ []) $ fjoin ! $ done !
 
-  pub handed-on : (ps : List Param) (j i : ℕ) (pick : Picks n ps) (its : Picks m ps) → pick κs ≡ its μs → (a : Denots (Types n κs ps j pick))
+  pub handed_on : (ps : List Param) (j i : ℕ) (pick : Picks n ps) (its : Picks m ps) → pick κs ≡ its μs → (a : Denots (Types n κs ps j pick))
       → ent 𝓤 (sem 𝓛 (Owned n κs ps j pick a)) (sem 𝓛 (fsep (Passed ps i its (data_of n κs ps j pick a)) (Had n κs ps j pick a)))
-  handed-on [] j i pick its e a = emp∗ 𝓤 (emp 𝓤)
-  handed-on (p ∷ ps) j i pick its e a =
+  handed_on [] j i pick its e a = emp∗ 𝓤 (emp 𝓤)
+  handed_on (p ∷ ps) j i pick its e a =
       more (P (pick κs)) (P (its μs)) (Owned n κs ps (plus p.takes j) (tail_of n p ps pick) a.1)
       (Passed ps (plus p.takes i) (tail_of m p ps its) (data_of n κs ps (plus p.takes j) (tail_of n p ps pick) a.1))
       (Had n κs ps (plus p.takes j) (tail_of n p ps pick) a.1)
       (subst (λ (l : Lfts (lifetimes (p ∷ ps))). ent 𝓤 (sem 𝓛 (P (pick κs))) (sem 𝓛 (fsep (P l) (P (pick κs))))) e
       (p.twice 𝓛 (head_of n p ps pick κs) a.0 (p.val a.0 ∷ [])))
-      (handed-on ps (plus p.takes j) (plus p.takes i) (tail_of n p ps pick) (tail_of m p ps its) (ap (tail-lfts p.takes (lifetimes ps)) e) a.1)
+      (handed_on ps (plus p.takes j) (plus p.takes i) (tail_of n p ps pick) (tail_of m p ps its) (ap (tail_lfts p.takes (lifetimes ps)) e) a.1)
     where
       P : Lfts (lifetimes (p ∷ ps)) → Fml
-      P l = p.own (head-lfts p.takes (lifetimes ps) l) a.0 (p.val a.0 ∷ [])
+      P l = p.own (head_lfts p.takes (lifetimes ps) l) a.0 (p.val a.0 ∷ [])
 
 -- what arguments of the same data own, where the lifetimes are the same
-pub same-owned : (n m : ℕ) (κs : Lfts n) (μs : Lfts m) (ps : List Param) (j i : ℕ) (pick : Picks n ps) (its : Picks m ps) → pick κs ≡ its μs → (x : Data ps)
+pub same_owned : (n m : ℕ) (κs : Lfts n) (μs : Lfts m) (ps : List Param) (j i : ℕ) (pick : Picks n ps) (its : Picks m ps) → pick κs ≡ its μs → (x : Data ps)
     → Owned n κs ps j pick (args_of n κs ps j pick x) ≡ Owned m μs ps i its (args_of m μs ps i its x)
-same-owned n m κs μs [] j i pick its e x = refl
-same-owned n m κs μs (p ∷ ps) j i pick its e x =
-    λ k. fsep (p.own (head-lfts p.takes (lifetimes ps) (e k)) x.0 (p.val x.0 ∷ []))
-    (same-owned n m κs μs ps (plus p.takes j) (plus p.takes i) (tail_of n p ps pick) (tail_of m p ps its) (λ l. tail-lfts p.takes (lifetimes ps) (e l)) x.1 k)
+same_owned n m κs μs [] j i pick its e x = refl
+same_owned n m κs μs (p ∷ ps) j i pick its e x =
+    λ k. fsep (p.own (head_lfts p.takes (lifetimes ps) (e k)) x.0 (p.val x.0 ∷ []))
+    (same_owned n m κs μs ps (plus p.takes j) (plus p.takes i) (tail_of n p ps pick) (tail_of m p ps its) (λ l. tail_lfts p.takes (lifetimes ps) (e l)) x.1 k)

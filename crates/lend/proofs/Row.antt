@@ -37,9 +37,9 @@ abbrev pub after : List Ty → ℕ → ℕ
 after [] k = k
 after (τ ∷ τs) k = suc (after τs k)
 
-pub after-row : (τs : List Ty) (bs : Blocks τs) (E : List (Ty × ℕ)) (k : ℕ) (d : Ty × ℕ) → get_or (placed τs bs E) (after τs k) d ≡ get_or E k d
-after-row [] bs E k d = refl
-after-row (τ ∷ τs) bs E k d = after-row τs bs.1 E k d
+pub after_row : (τs : List Ty) (bs : Blocks τs) (E : List (Ty × ℕ)) (k : ℕ) (d : Ty × ℕ) → get_or (placed τs bs E) (after τs k) d ≡ get_or E k d
+after_row [] bs E k d = refl
+after_row (τ ∷ τs) bs E k d = after_row τs bs.1 E k d
 
 -- the row's locals, from the n-th on
 abbrev pub copies : ℕ → List Ty → List Operand
@@ -59,10 +59,10 @@ stands [] bs E d = tt
 stands (τ ∷ τs) bs E d = (refl, shift (τ, bs.0) (placed τs bs.1 E) d zero τs bs.1 (stands τs bs.1 E d))
 
 -- a row that stands after another
-pub stand-after : (τs : List Ty) (bs : Blocks τs) (E : List (Ty × ℕ)) (d : Ty × ℕ) (k : ℕ) (ρs : List Ty) (cs : Blocks ρs) → Stand E d k ρs cs
+pub stand_after : (τs : List Ty) (bs : Blocks τs) (E : List (Ty × ℕ)) (d : Ty × ℕ) (k : ℕ) (ρs : List Ty) (cs : Blocks ρs) → Stand E d k ρs cs
     → Stand (placed τs bs E) d (after τs k) ρs cs
-stand-after [] bs E d k ρs cs s = s
-stand-after (τ ∷ τs) bs E d k ρs cs s = shift (τ, bs.0) (placed τs bs.1 E) d (after τs k) ρs cs (stand-after τs bs.1 E d k ρs cs s)
+stand_after [] bs E d k ρs cs s = s
+stand_after (τ ∷ τs) bs E d k ρs cs s = shift (τ, bs.0) (placed τs bs.1 E) d (after τs k) ρs cs (stand_after τs bs.1 E d k ρs cs s)
 
 module _ {M : Type 1} {𝓤 : Ura M} where
   -- room for the row; and the row with values in it
@@ -78,26 +78,26 @@ module _ {M : Type 1} {𝓤 : Ura M} where
 module _ {M : Type 1} {𝓤 : Ura M} {𝓛 : Logic 𝓤} {K : Type 0} where
   open 𝓛 use {H}
 
-  pub alloc-row : K → (τs : List Ty) {ls : List Local} {Kt : Env 𝓤 H → Goal 𝓤 H} {Γ : List (Item 𝓤)}
+  pub alloc_row : K → (τs : List Ty) {ls : List Local} {Kt : Env 𝓤 H → Goal 𝓤 H} {Γ : List (Item 𝓤)}
       → ((bs : Blocks τs) → Seq K 𝓛 (rooms τs bs ∷ Γ) (allocs ls (λ E. Kt (placed τs bs E)))) → Seq K 𝓛 Γ (allocs (declared τs ls) Kt)
-  alloc-row t [] k = nothing t $ k tt
-  alloc-row t (τ ∷ τs) k = alloc1 t (λ b. alloc-row t τs (λ bs. move t (1 ∷ 2 ∷ []) $ join t $ join t $ k (b, bs)))
+  alloc_row t [] k = nothing t $ k tt
+  alloc_row t (τ ∷ τs) k = alloc1 t (λ b. alloc_row t τs (λ bs. move t (1 ∷ 2 ∷ []) $ join t $ join t $ k (b, bs)))
 
-  pub pass-row : K → (τs : List Ty) (vs : List Val) (bs : Blocks τs) (E : Env 𝓤 H) {g : Goal 𝓤 H} {Γ : List (Item 𝓤)}
+  pub pass_row : K → (τs : List Ty) (vs : List Val) (bs : Blocks τs) (E : Env 𝓤 H) {g : Goal 𝓤 H} {Γ : List (Item 𝓤)}
       → Typed τs vs → Step K 𝓛 (cells τs vs bs ∷ Γ) g (rooms τs bs ∷ Γ) (passes (placed τs bs E) vs g)
-  pass-row t [] [] bs E ty = pass0 t
-  pass-row t [] (v ∷ vs) bs E ty = absurd ty
-  pass-row t (τ ∷ τs) [] bs E ty = absurd ty
-  pass-row t (τ ∷ τs) (v ∷ vs) bs E ty =
-      step (λ s. split t $ split t $ pass1 t (init t 0 refl ty.0) $ move t (2 ∷ []) $ pass-row t τs vs bs.1 E ty.1 $
+  pass_row t [] [] bs E ty = pass0 t
+  pass_row t [] (v ∷ vs) bs E ty = absurd ty
+  pass_row t (τ ∷ τs) [] bs E ty = absurd ty
+  pass_row t (τ ∷ τs) (v ∷ vs) bs E ty =
+      step (λ s. split t $ split t $ pass1 t (init t 0 refl ty.0) $ move t (2 ∷ []) $ pass_row t τs vs bs.1 E ty.1 $
       move t (1 ∷ 2 ∷ []) $ join t $ join t $ s)
 
-  pub free-row : K → (τs : List Ty) (vs : List Val) (bs : Blocks τs) (E : Env 𝓤 H) {g : Goal 𝓤 H} {Γ : List (Item 𝓤)}
+  pub free_row : K → (τs : List Ty) (vs : List Val) (bs : Blocks τs) (E : Env 𝓤 H) {g : Goal 𝓤 H} {Γ : List (Item 𝓤)}
       → Typed τs vs → Step K 𝓛 Γ (frees E g) (cells τs vs bs ∷ Γ) (frees (placed τs bs E) g)
-  free-row t [] [] bs E ty = drop t
-  free-row t [] (v ∷ vs) bs E ty = absurd ty
-  free-row t (τ ∷ τs) [] bs E ty = absurd ty
-  free-row t (τ ∷ τs) (v ∷ vs) bs E ty = step (λ s. split t $ split t $ forget t 0 refl $ free1 t $ free-row t τs vs bs.1 E ty.1 $ s)
+  free_row t [] [] bs E ty = drop t
+  free_row t [] (v ∷ vs) bs E ty = absurd ty
+  free_row t (τ ∷ τs) [] bs E ty = absurd ty
+  free_row t (τ ∷ τs) (v ∷ vs) bs E ty = step (λ s. split t $ split t $ forget t 0 refl $ free1 t $ free_row t τs vs bs.1 E ty.1 $ s)
 
   -- a local that stands where the equation says
   pub found : K → {E : Env 𝓤 H} {Γ : List (Item 𝓤)} {n : ℕ} {e : Ty × ℕ} {st : List PStep} {sp : Spot 𝓤 H}
@@ -130,12 +130,12 @@ module _ {M : Type 1} {𝓤 : Ura M} {𝓛 : Logic 𝓤} {K : Type 0} where
       → Part K 𝓛 (i ⊛ j) q τ b o v (λ u. i ⊛ back u)
   in_right t {i} = within t (λ j. i ⊛ j) (mean 𝓛 i) (λ j. comm∗ 𝓤 (mean 𝓛 i) (mean 𝓛 j)) (λ j. comm∗ 𝓤 (mean 𝓛 j) (mean 𝓛 i))
 
-  pub read-row : K → (τs : List Ty) (vs : List Val) (bs : Blocks τs) {E : Env 𝓤 H} (n : ℕ) {Γ : List (Item 𝓤)} → Typed τs vs → Stand E (no_local 𝓤 H) n τs bs
+  pub read_row : K → (τs : List Ty) (vs : List Val) (bs : Blocks τs) {E : Env 𝓤 H} (n : ℕ) {Γ : List (Item 𝓤)} → Typed τs vs → Stand E (no_local 𝓤 H) n τs bs
       → ((τ : Ty) (b : ℕ) (v : Val) (back : Val → Item 𝓤) → Part K 𝓛 (cells τs vs bs) full_share τ b zero v back → Reads K 𝓛 Γ τ b zero v)
       → Opds K 𝓛 Γ E (copies n τs) vs
-  read-row t [] [] bs n ty at look = no_more t
-  read-row t [] (v ∷ vs) bs n ty at look = absurd ty
-  read-row t (τ ∷ τs) [] bs n ty at look = absurd ty
-  read-row t (τ ∷ τs) (v ∷ vs) bs n ty at look =
+  read_row t [] [] bs n ty at look = no_more t
+  read_row t [] (v ∷ vs) bs n ty at look = absurd ty
+  read_row t (τ ∷ τs) [] bs n ty at look = absurd ty
+  read_row t (τ ∷ τs) (v ∷ vs) bs n ty at look =
       and_then t (load t (found t at.0 (stop t)) (look τ bs.0 v _ (in_left t (in_left t (whole t)))))
-      (read-row t τs vs bs.1 (suc n) ty.1 at.1 (λ τ' b v' back p. look τ' b v' _ (in_right t p)))
+      (read_row t τs vs bs.1 (suc n) ty.1 at.1 (λ τ' b v' back p. look τ' b v' _ (in_right t p)))

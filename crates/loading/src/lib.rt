@@ -1,9 +1,9 @@
 // A fresh unit of the buyer's own values (document 02, #105): which tables of bytes load, and the unit that a table makes.
 ghost use Rattle.std.specs.Prelude.{◌≡◌, ◌%◌, ltb, length, get_or};
 ghost use Rattle.rules.specs.Words.{if◌then◌else◌, every};
-ghost use Rattle.rules.specs.Registers.{mapSize, registers, reads, stored, settingsFrom};
+ghost use Rattle.rules.specs.Registers.{map_size, registers, reads, stored, settings_from};
 ghost use Rattle.rules.specs.Loading as rules;
-ghost use Rattle.rules.specs.Loading.{fits, loadRefusal, loading};
+ghost use Rattle.rules.specs.Loading.{fits, load_refusal, loading};
 ghost use Rattle.state.specs.Lent.{wholly};
 ghost use Rattle.unit.specs.Given.{Leads};
 
@@ -33,7 +33,7 @@ fn most(k: usize) -> u8
 
 // No byte of a table is above that.
 fn within(table: &[u8]) -> bool
-    requires { length table.now ≡ mapSize }
+    requires { length table.now ≡ map_size }
     ensures { result ≡ every (fits table.now) registers }
 {
     for k in 0..REGISTERS {
@@ -47,7 +47,7 @@ fn within(table: &[u8]) -> bool
 // 15 for a table that does not load, else 0.
 // Not: 28 bytes load; limits 5 apart load; the limits in each other's place.
 pub fn load_refusal(table: &[u8]) -> u8
-    ensures { result ≡ loadRefusal table.now }
+    ensures { result ≡ load_refusal table.now }
 {
     if table.len() != REGISTERS {
         return 15;
@@ -72,8 +72,8 @@ fn kept(k: usize, v: u8) -> u8
 
 // The registers that a table makes.
 fn registers_from(table: &[u8]) -> Registers
-    requires { length table.now ≡ mapSize }
-    ensures { settingsFrom result ≡ (λ a. stored a (settingsFrom table.now a)) }
+    requires { length table.now ≡ map_size }
+    ensures { settings_from result ≡ (λ a. stored a (settings_from table.now a)) }
 {
     let mut regs = [0u8; SLOTS];
     for k in 0..REGISTERS {

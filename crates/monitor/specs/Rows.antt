@@ -6,11 +6,11 @@ use Rattle.rules.specs.Words.{if◌then◌else◌}
 abbrev pub weight : ℕ → ℕ → ℕ
 weight mask k = mask / 2 ^ k % 2 * 2 ^ (k + 8)
 
--- the decay count after a tick, by the weight of the input's bit: the rule `decayAfter` has it of the weight of a mask's bit (`decay-rule`
+-- the decay count after a tick, by the weight of the input's bit: the rule `decay_after` has it of the weight of a mask's bit (`decay_rule`
 -- in proofs/Rows)
-unfoldable pub decayNumber : ℕ → ℕ → ℕ → ℕ
-decayNumber last w decay = if ltb (max w decay) (last % 256) then decay + 1 else 0
+unfoldable pub decay_number : ℕ → ℕ → ℕ → ℕ
+decay_number last w decay = if ltb (max w decay) (last % 256) then decay + 1 else 0
 
--- the activity alarm's number after a tick: the rule `alarmAfter` reads it
-unfoldable pub activityNumber : ℕ → ℕ → ℕ → ℕ → ℕ
-activityNumber setLevel clearLevel level activity = if leb setLevel level then 1 else (if leb level clearLevel then 0 else activity)
+-- the activity alarm's number after a tick: the rule `alarm_after` reads it
+unfoldable pub activity_number : ℕ → ℕ → ℕ → ℕ → ℕ
+activity_number set_level clear_level level activity = if leb set_level level then 1 else (if leb level clear_level then 0 else activity)

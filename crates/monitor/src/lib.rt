@@ -1,11 +1,11 @@
 // Tick steps 1 and 2 of the eight inputs (document 01, "Monitors (tick steps 1, 2)"): bucket, activity alarm, the lock alarm's remainder, soak.
 // Each number's row of eight is computed as a row, by a function of one input's numbers, those of its bucket among them (document 02, #104).
 ghost use Rattle.std.specs.Prelude.{◌≡◌, ◌+◌, ◌-◌, leb, get_or};
-ghost use Rattle.rules.specs.Monitors.{levelAfter, good, soakAfter};
+ghost use Rattle.rules.specs.Monitors.{level_after, good, soak_after};
 ghost use Rattle.rules.specs.Tick as Tick;
-ghost use Rattle.buckets.specs.Bridge.{eight, ticksOf, bucketAt};
-ghost use Rattle.inputs.specs.Bridge.{is_set, inputsOf, entering, leaving};
-ghost use Rattle.monitor.specs.Rows.{weight, decayNumber, activityNumber};
+ghost use Rattle.buckets.specs.Bridge.{eight, ticks_of, bucket_at};
+ghost use Rattle.inputs.specs.Bridge.{is_set, inputs_of, entering, leaving};
+ghost use Rattle.monitor.specs.Rows.{weight, decay_number, activity_number};
 
 use arith::{both, down, either, larger, up, wide16};
 use buckets::Row;
@@ -15,14 +15,14 @@ use inputs::FULL_SOAK;
 
 // Whether a clean tick brings the decay count to its end.
 fn decays(last: u16, decay: u16) -> bool
-    ensures { result ≡ leb (ticksOf last) (decay + 1) }
+    ensures { result ≡ leb (ticks_of last) (decay + 1) }
 {
     last % 256 <= decay
 }
 
-// The rule `levelAfter`.
+// The rule `level_after`.
 fn level_of(size: u16, last: u16, bad: bool, level: u16, decay: u16) -> u16
-    ensures { result ≡ levelAfter size (ticksOf last) bad level decay }
+    ensures { result ≡ level_after size (ticks_of last) bad level decay }
 {
     either(
         bad,
@@ -31,17 +31,17 @@ fn level_of(size: u16, last: u16, bad: bool, level: u16, decay: u16) -> u16
     )
 }
 
-// The rule `decayAfter`, by the weight of the input's bit: of an irregular tick it is above every last count. One test in place of two, so that eight lanes
+// The rule `decay_after`, by the weight of the input's bit: of an irregular tick it is above every last count. One test in place of two, so that eight lanes
 // are chosen side by side.
 fn decay_of(last: u16, weight: u16, decay: u16) -> u16
-    ensures { result ≡ decayNumber last weight decay }
+    ensures { result ≡ decay_number last weight decay }
 {
     either(larger(weight, decay) < last % 256, up(decay, last), 0)
 }
 
-// The rule `alarmAfter`, as a number: 1 where it is set anew.
+// The rule `alarm_after`, as a number: 1 where it is set anew.
 fn activity_of(high: u16, low: u16, level: u16, activity: u16) -> u16
-    ensures { result ≡ activityNumber high low level activity }
+    ensures { result ≡ activity_number high low level activity }
 {
     either(high <= level, 1, either(level <= low, 0, activity))
 }
@@ -53,9 +53,9 @@ fn is_good(activity: u16, frequency: u16, remainder: u16) -> bool
     both(both(activity == 0, frequency == 0), remainder == 0)
 }
 
-// The rule `soakAfter`, of an input with these alarms.
+// The rule `soak_after`, of an input with these alarms.
 fn soak_of(activity: u16, frequency: u16, remainder: u16, soak: u16) -> u16
-    ensures { result ≡ soakAfter (good (is_set activity) (is_set frequency) remainder) soak }
+    ensures { result ≡ soak_after (good (is_set activity) (is_set frequency) remainder) soak }
 {
     either(
         is_good(activity, frequency, remainder),
@@ -84,7 +84,7 @@ fn irregular_row(mask: u8) -> Row
 }
 
 fn level_row(s: Row, t: Row, b: Row, l: Row, d: Row) -> Row
-    ensures { result ≡ eight (λ k. levelAfter (get_or s k 0) (ticksOf (get_or t k 0)) (is_set (get_or b k 0)) (get_or l k 0) (get_or d k 0)) }
+    ensures { result ≡ eight (λ k. level_after (get_or s k 0) (ticks_of (get_or t k 0)) (is_set (get_or b k 0)) (get_or l k 0) (get_or d k 0)) }
 {
     [
         level_of(s[0], t[0], b[0] != 0, l[0], d[0]),
@@ -99,7 +99,7 @@ fn level_row(s: Row, t: Row, b: Row, l: Row, d: Row) -> Row
 }
 
 fn decay_row(t: Row, b: Row, d: Row) -> Row
-    ensures { result ≡ eight (λ k. decayNumber (get_or t k 0) (get_or b k 0) (get_or d k 0)) }
+    ensures { result ≡ eight (λ k. decay_number (get_or t k 0) (get_or b k 0) (get_or d k 0)) }
 {
     [
         decay_of(t[0], b[0], d[0]),
@@ -114,7 +114,7 @@ fn decay_row(t: Row, b: Row, d: Row) -> Row
 }
 
 fn activity_row(h: Row, w: Row, l: Row, a: Row) -> Row
-    ensures { result ≡ eight (λ k. activityNumber (get_or h k 0) (get_or w k 0) (get_or l k 0) (get_or a k 0)) }
+    ensures { result ≡ eight (λ k. activity_number (get_or h k 0) (get_or w k 0) (get_or l k 0) (get_or a k 0)) }
 {
     [
         activity_of(h[0], w[0], l[0], a[0]),
@@ -144,7 +144,7 @@ fn remainder_row(r: Row) -> Row
 }
 
 fn soak_row(a: Row, f: Row, r: Row, s: Row) -> Row
-    ensures { result ≡ eight (λ k. soakAfter (good (is_set (get_or a k 0)) (is_set (get_or f k 0)) (get_or r k 0)) (get_or s k 0)) }
+    ensures { result ≡ eight (λ k. soak_after (good (is_set (get_or a k 0)) (is_set (get_or f k 0)) (get_or r k 0)) (get_or s k 0)) }
 {
     [
         soak_of(a[0], f[0], r[0], s[0]),
@@ -174,7 +174,7 @@ pub fn watched(
     lows: &Row,
     lasts: &Row,
 )
-    ensures { inputsOf (leaving level decay activity frequency.now remainder soak) ≡ Tick.watched (λ i. bucketAt sizes.now highs.now lows.now lasts.now (i - 1)) mask (inputsOf (entering level decay activity frequency.now remainder soak)) }
+    ensures { inputs_of (leaving level decay activity frequency.now remainder soak) ≡ Tick.watched (λ i. bucket_at sizes.now highs.now lows.now lasts.now (i - 1)) mask (inputs_of (entering level decay activity frequency.now remainder soak)) }
 {
     let b = irregular_row(mask);
     let l0 = *level;

@@ -1,12 +1,12 @@
 // The pages of a run's records (document 02, #101): lines of 27 columns, 50 to a page, the last page filled.
-// Rules are those of crates/rules/specs/Pages.antt; the rule is named above the function. `Puts` says that a text is put into the output, `laidOut` what is left where
+// Rules are those of crates/rules/specs/Pages.antt; the rule is named above the function. `Puts` says that a text is put into the output, `laid_out` what is left where
 // there is too little room.
 ghost use Rattle.std.specs.Prelude.{◌≡◌, [], ◌∷◌, ◌++◌, ◌+◌, ◌*◌, ◌≤◌, ◌<◌, ltb, length, drop};
 ghost use Rattle.rules.specs.Sheet.{over};
-ghost use Rattle.rules.specs.Printout.{lineFeed, decimal};
-ghost use Rattle.rules.specs.Pages.{leftIn, rightIn, stateName, recordColumns, pageBytes, pageCount, pageLine};
+ghost use Rattle.rules.specs.Printout.{line_feed, decimal};
+ghost use Rattle.rules.specs.Pages.{left_in, right_in, state_name, record_columns, page_bytes, page_count, page_line};
 ghost use Rattle.digits.specs.Puts.{Puts};
-ghost use Rattle.pages.specs.Output.{laidOut};
+ghost use Rattle.pages.specs.Output.{laid_out};
 
 use arith::wide64;
 use digits::{digits_of, put, put_hexadecimal, put_word};
@@ -20,19 +20,19 @@ const PAGE_BYTES: usize = 1400;
 
 // ---- columns
 
-// The rule `rightIn`, of a number's digits: the last of its columns.
+// The rule `right_in`, of a number's digits: the last of its columns.
 fn put_right(n: usize, width: usize, at: usize, out: &mut [u8]) -> usize
     requires { width ≤ 5 }
-    ensures { Puts (rightIn width (decimal n)) at out.old result out.new }
+    ensures { Puts (right_in width (decimal n)) at out.old result out.new }
 {
     let columns = digits_of(n).columns;
     let start = 25 - width;
     put_word(&columns[start..], at, out)
 }
 
-// The rules `leftIn` and `stateName`: the name of a state in 12 columns.
+// The rules `left_in` and `state_name`: the name of a state in 12 columns.
 fn name_of(state: u8) -> [u8; 12]
-    ensures { result ≡ leftIn 12 (stateName state) }
+    ensures { result ≡ left_in 12 (state_name state) }
 {
     match state {
         0 => *b"Free Run    ",
@@ -47,10 +47,10 @@ fn name_of(state: u8) -> [u8; 12]
 
 // ---- lines, each at the front of a part of the output
 
-// The rule `recordColumns` and a line feed, of the record with this index among the records.
+// The rule `record_columns` and a line feed, of the record with this index among the records.
 fn put_columns(index: usize, records: &[u8], out: &mut [u8]) -> usize
     requires { 4 * index + 3 < length records.now }
-    ensures { Puts (recordColumns index (drop (4 * index) records.now) ++ lineFeed ∷ []) 0 out.old result out.new }
+    ensures { Puts (record_columns index (drop (4 * index) records.now) ++ line_feed ∷ []) 0 out.old result out.new }
 {
     let first = 4 * index;
     let refusal = wide64(records[first]);
@@ -67,10 +67,10 @@ fn put_columns(index: usize, records: &[u8], out: &mut [u8]) -> usize
     put(b'\n', next, out)
 }
 
-// The rule `pageLine`, in the bytes of a line at the front of the part.
+// The rule `page_line`, in the bytes of a line at the front of the part.
 fn put_line(n: usize, records: &[u8], j: usize, out: &mut [u8])
     requires { (4 * n ≤ length records.now) × (28 ≤ length out.old) }
-    ensures { out.new ≡ over (pageLine n records.now j) out.old }
+    ensures { out.new ≡ over (page_line n records.now j) out.old }
 {
     if j < n {
         put_columns(j, records, &mut out[..LINE_BYTES]);
@@ -81,9 +81,9 @@ fn put_line(n: usize, records: &[u8], j: usize, out: &mut [u8])
 
 // ---- pages
 
-// The rule `pageCount`.
+// The rule `page_count`.
 fn page_count(n: usize) -> usize
-    ensures { result ≡ pageCount n }
+    ensures { result ≡ page_count n }
 {
     if n % PAGE_LINES == 0 {
         n / PAGE_LINES
@@ -95,15 +95,15 @@ fn page_count(n: usize) -> usize
 // "a page output under 1,400 bytes a page": whether so many bytes are too few for the pages of n records.
 // Not: one byte too few passes; a page for no records.
 pub fn too_short(n: usize, room: usize) -> bool
-    ensures { result ≡ ltb room (pageBytes * pageCount n) }
+    ensures { result ≡ ltb room (page_bytes * page_count n) }
 {
     room / PAGE_BYTES < page_count(n)
 }
 
-// The rule `pagesOf`: the pages of all records over the front of the output, if it has room for them.
+// The rule `pages_of`: the pages of all records over the front of the output, if it has room for them.
 // Not: pages put where there is too little room.
 pub fn lay_out(records: &[u8], out: &mut [u8])
-    ensures { out.new ≡ laidOut records.now out.old }
+    ensures { out.new ≡ laid_out records.now out.old }
 {
     let n = records.len() / 4;
     if too_short(n, out.len()) {

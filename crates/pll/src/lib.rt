@@ -1,11 +1,11 @@
 // The PLL (document 01, "PLL (step 3)" and the state of "Selection (step 4)"): its state, its lock and unlock runs, and the ticks in Holdover.
 ghost use Rattle.std.specs.Prelude.{◌≡◌, ◌+◌, min, not, ◌&&◌, ◌||◌, eqb};
-ghost use Rattle.rules.specs.Pll.{modeNumber, freeRun, holdover, preLocked, locked, preLocked2, is, lockTicks, unlockTicks, alarmDue};
+ghost use Rattle.rules.specs.Pll.{mode_number, free_run, holdover, pre_locked, locked, pre_locked2, is, lock_ticks, unlock_ticks, alarm_due};
 ghost use Rattle.rules.specs.Words.{if◌then◌else◌};
 ghost use Rattle.rules.specs.Pll as rules;
-ghost use Rattle.rules.specs.Selection.{unselectedMode, unselectedLoop, modeAfter};
+ghost use Rattle.rules.specs.Selection.{unselected_mode, unselected_loop, mode_after};
 ghost use Rattle.rules.specs.Selection as selection;
-ghost use Rattle.rules.specs.Tick.{holdingLimit, holdingAfter};
+ghost use Rattle.rules.specs.Tick.{holding_limit, holding_after};
 ghost use Rattle.rules.specs.Registers as registers;
 ghost use Rattle.pll.specs.Bridge.{mode_of, loop_of};
 
@@ -44,7 +44,7 @@ pub struct Loop {
 // The state is Free Run.
 // Not: Holdover counts too; never Free Run.
 pub fn is_free_run(mode: u32) -> bool
-    ensures { result ≡ is freeRun (mode_of mode) }
+    ensures { result ≡ is free_run (mode_of mode) }
 {
     mode == FREE_RUN
 }
@@ -68,7 +68,7 @@ pub fn is_locked(mode: u32) -> bool
 // The state's number as 0x48 shows it. A stored number past 5, which no event leaves, reads as Pre-locked 2.
 // Not: a stored 6 shown as 6; 0 for every number past 5.
 pub fn mode_number(mode: u32) -> u8
-    ensures { result ≡ modeNumber (mode_of mode) }
+    ensures { result ≡ mode_number (mode_of mode) }
 {
     if PRE_LOCKED_2 < mode {
         return PRE_LOCKED_2 as u8;
@@ -100,7 +100,7 @@ pub fn unlocked(mode: u32) -> u32
 
 // "lock run +1 up to 16".
 fn longer_lock(run: u32) -> u32
-    ensures { result ≡ min lockTicks (run + 1) }
+    ensures { result ≡ min lock_ticks (run + 1) }
 {
     if run < LOCK_TICKS {
         run + 1
@@ -111,7 +111,7 @@ fn longer_lock(run: u32) -> u32
 
 // "unlock run +1"; it stops at 782.
 fn longer_unlock(run: u32) -> u32
-    ensures { result ≡ min unlockTicks (run + 1) }
+    ensures { result ≡ min unlock_ticks (run + 1) }
 {
     if run < UNLOCK_TICKS {
         run + 1
@@ -150,7 +150,7 @@ pub fn looped(lock: bool, p: Loop) -> Loop
 // "Unlock run 782 (100 s) sets that input's lock alarm".
 // Not: due a tick early, at 781; always due.
 pub fn alarm_due(p: Loop) -> bool
-    ensures { result ≡ alarmDue (loop_of p) }
+    ensures { result ≡ alarm_due (loop_of p) }
 {
     p.unlock == UNLOCK_TICKS
 }
@@ -160,7 +160,7 @@ pub fn alarm_due(p: Loop) -> bool
 // With nothing selected: "Holdover if Ready, otherwise Free Run".
 // Not: Holdover unless Ready; always Free Run.
 pub fn unselected_mode(ready: bool) -> u32
-    ensures { mode_of result ≡ unselectedMode ready }
+    ensures { mode_of result ≡ unselected_mode ready }
 {
     if ready { HOLDOVER } else { FREE_RUN }
 }
@@ -180,7 +180,7 @@ fn freed(automatic: bool, opmode: u8, next: u32) -> bool
 
 // "A newly selected reference starts Pre-locked if the state was Free Run, else Pre-locked 2."
 fn newly_selected(mode: u32) -> u32
-    ensures { mode_of result ≡ (if is freeRun (mode_of mode) then preLocked else preLocked2) }
+    ensures { mode_of result ≡ (if is free_run (mode_of mode) then pre_locked else pre_locked2) }
 {
     if is_free_run(mode) {
         PRE_LOCKED
@@ -199,7 +199,7 @@ pub fn mode_after(
     next: u32,
     mode: u32,
 ) -> u32
-    ensures { mode_of result ≡ modeAfter automatic opmode ready before next (mode_of mode) }
+    ensures { mode_of result ≡ mode_after automatic opmode ready before next (mode_of mode) }
 {
     if freed(automatic, opmode, next) {
         return FREE_RUN;
@@ -236,7 +236,7 @@ pub fn steered(automatic: bool, opmode: u8, ready: bool, before: u32, next: u32,
 // A Hit: "wait and runs 0, .. state Holdover or Free Run by Ready".
 // Not: a lock run of 1; Holdover unless Ready.
 pub fn loop_after_hit(ready: bool) -> Loop
-    ensures { loop_of result ≡ unselectedLoop ready }
+    ensures { loop_of result ≡ unselected_loop ready }
 {
     Loop {
         unlock: 0,
@@ -249,7 +249,7 @@ pub fn loop_after_hit(ready: bool) -> Loop
 
 // One tick more in Holdover; the count stops at 255 hours.
 fn longer_holding(holding: u32) -> u32
-    ensures { result ≡ min holdingLimit (holding + 1) }
+    ensures { result ≡ min holding_limit (holding + 1) }
 {
     if holding < HOLDING_LIMIT {
         holding + 1
@@ -261,7 +261,7 @@ fn longer_holding(holding: u32) -> u32
 // The ticks in Holdover "after the entering event": the tick that enters does not count.
 // Not: each tick counted as the first; a count that stops at 254 hours; the entering tick counts.
 pub fn holding_after(before: u32, after: u32, holding: u32) -> u32
-    ensures { result ≡ holdingAfter (mode_of before) (mode_of after) holding }
+    ensures { result ≡ holding_after (mode_of before) (mode_of after) holding }
 {
     if is_holdover(before) {
         if is_holdover(after) {

@@ -5,15 +5,15 @@ use mathlib.Core.List.{List}
 use native.Mathlib.Omega.{arith}
 use lib.ListN.{length}
 use borrow.Author.Tests.{le-ltb}
-use Rattle.rules.specs.Sheet.{recordCount, front, over}
-use Rattle.rules.specs.Pages.{pageBytes, pageCount, pagesOf}
+use Rattle.rules.specs.Sheet.{record_count, front, over}
+use Rattle.rules.specs.Pages.{page_bytes, page_count, pages_of}
 use Rattle.rules.proofs.Sheets.{outputs}
 use Rattle.rules.proofs.Prints.{PrintPassed}
-use Rattle.pages.specs.Output.{laidOut}
+use Rattle.pages.specs.Output.{laid_out}
 
 pub laid_out : (s records pages : List ℕ) → PrintPassed s (length records) (length pages)
-    → laidOut (front s (length records)) pages ≡ over (pagesOf (recordCount s) (front s (length records))) pages
-unfolding laidOut
+    → laid_out (front s (length records)) pages ≡ over (pages_of (record_count s) (front s (length records))) pages
+unfolding laid_out
 laid_out s records pages p =
-    let count : length (front s (length records)) / 4 ≡ recordCount s = omega (arith, (outputs s records p.runs).written) in
-    rw (count, le-ltb (length pages) (pageBytes * pageCount (recordCount s)) p.paper) refl
+    let count : length (front s (length records)) / 4 ≡ record_count s = omega (arith, (outputs s records p.runs).written) in
+    rw (count, le-ltb (length pages) (page_bytes * page_count (record_count s)) p.paper) refl

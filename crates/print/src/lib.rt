@@ -2,11 +2,11 @@
 // Each contract is an equation with a rule of crates/rules/specs/Pages.antt; the rule is named above the function.
 ghost use Rattle.std.specs.Prelude.{◌≡◌};
 ghost use Rattle.rules.specs.Pages as rules;
-ghost use Rattle.rules.specs.Pages.{printCheck, Print};
+ghost use Rattle.rules.specs.Pages.{print_check, Print};
 
-// The rule `printCheck`: the number of a sheet for two outputs of these lengths, 0 if it will run.
+// The rule `print_check`: the number of a sheet for two outputs of these lengths, 0 if it will run.
 fn print_check(sheet: &[u8], room: usize, paper: usize) -> u8
-    ensures { result ≡ printCheck sheet.now room paper }
+    ensures { result ≡ print_check sheet.now room paper }
 {
     let number = sheet::check(sheet, room);
     if number != 0 {

@@ -5,7 +5,7 @@ use Rattle.rules.specs.History.{History, ready, value}
 use Rattle.rules.specs.Reading.{Answer, twos, read}
 use Rattle.inputs.specs.Bridge.{Row}
 use Rattle.state.specs.Lent.{Sums}
-use Rattle.state.specs.Stored.{Stored, meaning, withCore, withSoak, withSums, withRegisters}
+use Rattle.state.specs.Stored.{Stored, meaning, with_core, with_soak, with_sums, with_registers}
 use Rattle.state.specs.declared.Core.{Core}
 
 -- an answer as one number: 256 times the refusal, plus the byte
@@ -18,7 +18,7 @@ Shows u address n = n ≡ word_of (read (meaning u) address)
 
 -- a unit with the core and the arrays that a read is lent
 abbrev pub seen : Core → Row → Sums → Row → Stored → Stored
-seen k soak sums regs s = withCore k (withSoak soak.entry.now (withSums sums.entry.now (withRegisters regs.entry.now s)))
+seen k soak sums regs s = with_core k (with_soak soak.entry.now (with_sums sums.entry.now (with_registers regs.entry.now s)))
 
 -- the byte of the value's bits at a unit; 0 unless Ready
 abbrev pub byte_at : ℕ → History → ℕ

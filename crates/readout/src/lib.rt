@@ -3,7 +3,7 @@
 ghost use Rattle.std.specs.Prelude.{◌≡◌, List, ◌≤◌, min, ℤ};
 ghost use Rattle.rules.specs.Reading as reading;
 ghost use Rattle.pll.specs.Bridge.{mode_of};
-ghost use Rattle.history.specs.Bridge.{historyOf};
+ghost use Rattle.history.specs.Bridge.{history_of};
 ghost use Rattle.state.specs.Stored.{Stored, meaning};
 ghost use Rattle.readout.specs.Shows.{byte_at, seen, Shows};
 
@@ -34,18 +34,18 @@ fn hours(mode: u32, holding: u32) -> u8
     0
 }
 
-// 0x48, the rule `stateByte`: state and selected.
+// 0x48, the rule `state_byte`: state and selected.
 // Not: selected of 16 and more spills over; the state alone.
 pub fn state_byte(mode: u32, selected: u32) -> u8
-    ensures { result ≡ reading.stateByte (mode_of mode) selected }
+    ensures { result ≡ reading.state_byte (mode_of mode) selected }
 {
     16 * pll::mode_number(mode) + (selected % 16) as u8
 }
 
-// 0x49, the rule `statusByte`: alarm, not Locked, Ready, backup held.
+// 0x49, the rule `status_byte`: alarm, not Locked, Ready, backup held.
 // Not: Locked for not Locked; Ready in bit 3.
 pub fn status_byte(mode: u32, ready: bool, held: bool) -> u8
-    ensures { result ≡ reading.statusByte (mode_of mode) ready held }
+    ensures { result ≡ reading.status_byte (mode_of mode) ready held }
 {
     let holdover = pll::is_holdover(mode);
     let free = pll::is_free_run(mode);
@@ -53,10 +53,10 @@ pub fn status_byte(mode: u32, ready: bool, held: bool) -> u8
     weigh(one_of(holdover, free), 1) + weigh(!locked, 2) + weigh(ready, 4) + weigh(held, 8)
 }
 
-// 0x4a to 0x4d, the rule `valueByte`: the byte of the value's 32 bits at a unit 1, 256, 65,536 or 16,777,216; 0 unless Ready. The sums are read once.
+// 0x4a to 0x4d, the rule `value_byte`: the byte of the value's 32 bits at a unit 1, 256, 65,536 or 16,777,216; 0 unless Ready. The sums are read once.
 fn value_byte(t: Tally, sums: &Sums, unit: u32) -> u8
     requires { 1 ≤ unit }
-    ensures { (building backup : List ℤ) → result ≡ byte_at unit (historyOf t sums.now building backup) }
+    ensures { (building backup : List ℤ) → result ≡ byte_at unit (history_of t sums.now building backup) }
 {
     let ready = history::is_ready(t);
     if ready {

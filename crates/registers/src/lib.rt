@@ -1,10 +1,10 @@
 // The registers (document 01, "Registers"): their table, and what the settings say.
-// A unit keeps one byte for each register, in address order: 0x1c to 0x27, then 0x40 to 0x4e. The rules' settings are `settingsFrom` of these bytes.
+// A unit keeps one byte for each register, in address order: 0x1c to 0x27, then 0x40 to 0x4e. The rules' settings are `settings_from` of these bytes.
 // The bytes of 0x26 and of the registers that are read only stay 0: what these show is kept elsewhere.
 ghost use Rattle.std.specs.Prelude.{◌≡◌, ◌+◌, length, get_or};
 ghost use Rattle.rules.specs.Settings as settings;
 ghost use Rattle.rules.specs.Registers as rules;
-ghost use Rattle.rules.specs.Registers.{settingsFrom, freshTable};
+ghost use Rattle.rules.specs.Registers.{settings_from, fresh_table};
 ghost use Rattle.registers.specs.Bridge.{row};
 
 // How many registers there are.
@@ -155,7 +155,7 @@ pub fn slot(a: u8) -> usize
 // Whether an address is in the map.
 // Not: 0x4e is not; every address is.
 pub fn in_map(a: u8) -> bool
-    ensures { result ≡ rules.inMap a }
+    ensures { result ≡ rules.in_map a }
 {
     slot(a) < REGISTERS
 }
@@ -182,7 +182,7 @@ pub fn register_at(a: u8) -> Register
 // The registers of the standard fresh unit: the column Fresh.
 // Not: a mask of 254; every byte 0.
 pub fn fresh_registers() -> Registers
-    ensures { settingsFrom result ≡ settingsFrom freshTable }
+    ensures { settings_from result ≡ settings_from fresh_table }
 {
     let table = TABLE;
     let mut regs = [0u8; SLOTS];
@@ -205,7 +205,7 @@ pub fn bytes(regs: Registers) -> usize
 // The setting at an address. An address that is not in the map has the byte behind the last register.
 // Not: the setting beside it; 255 outside the map.
 pub fn setting(regs: &Registers, a: u8) -> u8
-    ensures { result ≡ settingsFrom regs.now a }
+    ensures { result ≡ settings_from regs.now a }
 {
     let k = slot(a);
     regs[k]
@@ -214,14 +214,14 @@ pub fn setting(regs: &Registers, a: u8) -> u8
 // 0x40: automatic control.
 // Not: automatic at 0; always automatic.
 pub fn is_automatic(regs: &Registers) -> bool
-    ensures { result ≡ settings.automatic (settingsFrom regs.now) }
+    ensures { result ≡ settings.automatic (settings_from regs.now) }
 {
     setting(regs, 0x40) == 1
 }
 
 // The register of candidate c, 0x1b + c: 0x1c to 0x23 for the inputs 1 to 8, 0x24 for Free Run, 9. An address past 255 is not in the map.
 fn own_register(regs: &Registers, c: u32) -> u8
-    ensures { result ≡ settingsFrom regs.now (0x1b + c) }
+    ensures { result ≡ settings_from regs.now (0x1b + c) }
 {
     if c <= 228 {
         return setting(regs, 0x1b + c as u8);
@@ -232,7 +232,7 @@ fn own_register(regs: &Registers, c: u32) -> u8
 // Bit 3 of candidate c's register: revertive.
 // Not: bit 2 of it; the register before it.
 pub fn is_revertive(regs: &Registers, c: u32) -> bool
-    ensures { result ≡ settings.revertive (settingsFrom regs.now) c }
+    ensures { result ≡ settings.revertive (settings_from regs.now) c }
 {
     own_register(regs, c) / 8 % 2 == 1
 }

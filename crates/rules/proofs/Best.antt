@@ -6,13 +6,13 @@ use mathlib.Core.Bool.{Bool, true, false, ◌&&◌, ◌||◌}
 use native.Mathlib.Omega.{arith}
 use lib.Dec.{leb, ltb, eqb}
 use borrow.Author.Tests.{eqb-true, eqb-false, leb-true, leb-false, ltb-true, ltb-false, eq-eqb, lt-ltb}
-use Rattle.rules.specs.Words.{isInput}
+use Rattle.rules.specs.Words.{is_input}
 use Rattle.rules.specs.Monitors.{qualified}
 use Rattle.rules.specs.Settings.{Settings, priority, usable, ahead}
 use Rattle.rules.specs.Inputs.{Inputs, input}
-use Rattle.rules.specs.Selection.{available, candidate, bestUpTo, best}
+use Rattle.rules.specs.Selection.{available, candidate, best_up_to, best}
 use Rattle.rules.specs.Laws.{BestOf, BestCandidate}
-use Rattle.rules.proofs.Tests.{if-case, by-test, clash, or-true, and_left, and_right, or_cases, low, high}
+use Rattle.rules.proofs.Tests.{if_case, by_test, clash, or_true, and_left, and_right, or_cases, low, high}
 
 -- ---- the order
 
@@ -21,15 +21,15 @@ module _ (set : Settings) where
   abbrev Ahead : ℕ → ℕ → Type 0
   Ahead a b = (priority set a < priority set b) ⊎ ((priority set a ≡ priority set b) × (a < b))
 
-  pub ahead-is : (a b : ℕ) → Ahead a b → ahead set a b ≡ true
+  pub ahead_is : (a b : ℕ) → Ahead a b → ahead set a b ≡ true
   unfolding ahead
-  ahead-is a b (inl l) = rw (lt-ltb (priority set a) (priority set b) l) refl
-  ahead-is a b (inr e) =
-      rw (eq-eqb (priority set a) (priority set b) e.0, lt-ltb a b e.1) (or-true (ltb (priority set a) (priority set b)))
+  ahead_is a b (inl l) = rw (lt-ltb (priority set a) (priority set b) l) refl
+  ahead_is a b (inr e) =
+      rw (eq-eqb (priority set a) (priority set b) e.0, lt-ltb a b e.1) (or_true (ltb (priority set a) (priority set b)))
 
-  ahead-means : (a b : ℕ) → ahead set a b ≡ true → Ahead a b
+  ahead_means : (a b : ℕ) → ahead set a b ≡ true → Ahead a b
   unfolding ahead
-  ahead-means a b h = go (or_cases (ltb p q) (eqb p q && ltb a b) h)
+  ahead_means a b h = go (or_cases (ltb p q) (eqb p q && ltb a b) h)
     where
       p : ℕ
       p = priority set a
@@ -42,8 +42,8 @@ module _ (set : Settings) where
       go (inr e) = inr (eqb-true p q (and_left (eqb p q) (ltb a b) e), ltb-true a b (and_right (eqb p q) (ltb a b) e))
 
   -- it is an order, and any two candidates stand in it
-  ahead-trans : (a b c : ℕ) → ahead set a b ≡ true → ahead set b c ≡ true → ahead set a c ≡ true
-  ahead-trans a b c x y = ahead-is a c (go (ahead-means a b x) (ahead-means b c y))
+  ahead_trans : (a b c : ℕ) → ahead set a b ≡ true → ahead set b c ≡ true → ahead set a c ≡ true
+  ahead_trans a b c x y = ahead_is a c (go (ahead_means a b x) (ahead_means b c y))
     where
       go : Ahead a b → Ahead b c → Ahead a c
       go (inl u) (inl v) = inl (omega arith)
@@ -51,45 +51,45 @@ module _ (set : Settings) where
       go (inr u) (inl v) = inl (omega (arith, u.0))
       go (inr u) (inr v) = inr (omega (arith, u.0, v.0), omega (arith, u.1, v.1))
 
-  pub ahead-asym : (a b : ℕ) → ahead set a b ≡ true → ahead set b a ≡ true → ⊥
-  ahead-asym a b x y = go (ahead-means a a (ahead-trans a b a x y))
+  pub ahead_asym : (a b : ℕ) → ahead set a b ≡ true → ahead set b a ≡ true → ⊥
+  ahead_asym a b x y = go (ahead_means a a (ahead_trans a b a x y))
     where
       go : Ahead a a → ⊥
       go (inl u) = omega arith
       go (inr u) = omega (arith, u.1)
 
-  ahead-total : (a b : ℕ) → (a ≡ b → ⊥) → ahead set a b ≡ false → ahead set b a ≡ true
-  ahead-total a b ne h =
-      by-test (ltb (priority set b) (priority set a))
-      (λ e. ahead-is b a (inl (ltb-true (priority set b) (priority set a) e)))
-      (λ e. by-test (eqb (priority set a) (priority set b))
-      (λ t. by-test (ltb b a)
-      (λ u. ahead-is b a (inr (sym (eqb-true (priority set a) (priority set b) t), ltb-true b a u)))
-      (λ u. clash (ahead-is a b (inr (eqb-true (priority set a) (priority set b) t, omega (arith, ltb-false b a u, ne)))) h))
-      (λ t. clash (ahead-is a b (inl (omega (arith, ltb-false (priority set b) (priority set a) e, eqb-false (priority set a) (priority set b) t)))) h))
+  ahead_total : (a b : ℕ) → (a ≡ b → ⊥) → ahead set a b ≡ false → ahead set b a ≡ true
+  ahead_total a b ne h =
+      by_test (ltb (priority set b) (priority set a))
+      (λ e. ahead_is b a (inl (ltb-true (priority set b) (priority set a) e)))
+      (λ e. by_test (eqb (priority set a) (priority set b))
+      (λ t. by_test (ltb b a)
+      (λ u. ahead_is b a (inr (sym (eqb-true (priority set a) (priority set b) t), ltb-true b a u)))
+      (λ u. clash (ahead_is a b (inr (eqb-true (priority set a) (priority set b) t, omega (arith, ltb-false b a u, ne)))) h))
+      (λ t. clash (ahead_is a b (inl (omega (arith, ltb-false (priority set b) (priority set a) e, eqb-false (priority set a) (priority set b) t)))) h))
 
 -- ---- candidates
 
 module _ (set : Settings) (inputs : Inputs) where
-  pub available-is : (c : ℕ) → available set inputs c ≡ true → (isInput c ≡ true) × (usable set c ≡ true) × (qualified (input inputs c) ≡ true)
+  pub available_is : (c : ℕ) → available set inputs c ≡ true → (is_input c ≡ true) × (usable set c ≡ true) × (qualified (input inputs c) ≡ true)
   unfolding available
-  available-is c e =
-      (and_left (isInput c) (usable set c) both, and_right (isInput c) (usable set c) both, and_right (isInput c && usable set c) (qualified (input inputs c)) e)
+  available_is c e =
+      (and_left (is_input c) (usable set c) both, and_right (is_input c) (usable set c) both, and_right (is_input c && usable set c) (qualified (input inputs c)) e)
     where
-      both : (isInput c && usable set c) ≡ true
-      both = and_left (isInput c && usable set c) (qualified (input inputs c)) e
+      both : (is_input c && usable set c) ≡ true
+      both = and_left (is_input c && usable set c) (qualified (input inputs c)) e
 
   -- a candidate is Free Run, enabled, or an available reference
-  pub candidate-is : {P : Type 0} (c : ℕ) → candidate set inputs c ≡ true → (c ≡ 9 → usable set c ≡ true → P) → (available set inputs c ≡ true → P) → P
+  pub candidate_is : {P : Type 0} (c : ℕ) → candidate set inputs c ≡ true → (c ≡ 9 → usable set c ≡ true → P) → (available set inputs c ≡ true → P) → P
   unfolding candidate
-  candidate-is c e f g = by-test (eqb c 9) (λ t. f (eqb-true c 9 t) (rw t at e)) (λ t. g (rw t at e))
+  candidate_is c e f g = by_test (eqb c 9) (λ t. f (eqb-true c 9 t) (rw t at e)) (λ t. g (rw t at e))
 
-  pub candidate-usable : (c : ℕ) → candidate set inputs c ≡ true → usable set c ≡ true
-  candidate-usable c e = candidate-is c e (λ z u. u) (λ a. (available-is c a).1)
+  pub candidate_usable : (c : ℕ) → candidate set inputs c ≡ true → usable set c ≡ true
+  candidate_usable c e = candidate_is c e (λ z u. u) (λ a. (available_is c a).1)
 
-  pub candidate-number : (c : ℕ) → candidate set inputs c ≡ true → (1 ≤ c) × (c ≤ 9)
-  candidate-number c e =
-      candidate-is c e (λ z u. (omega arith, omega arith)) (λ a. (low 1 8 c (available-is c a).0, omega (arith, high 1 8 c (available-is c a).0)))
+  pub candidate_number : (c : ℕ) → candidate set inputs c ≡ true → (1 ≤ c) × (c ≤ 9)
+  candidate_number c e =
+      candidate_is c e (λ z u. (omega arith, omega arith)) (λ a. (low 1 8 c (available_is c a).0, omega (arith, high 1 8 c (available_is c a).0)))
 
   -- ---- the best
 
@@ -99,15 +99,15 @@ module _ (set : Settings) (inputs : Inputs) where
       ((b ≡ 0) × ((c : ℕ) → c ≤ k → candidate set inputs c ≡ false))
       ⊎ ((candidate set inputs b ≡ true) × ((c : ℕ) → c ≤ k → candidate set inputs c ≡ true → (c ≡ b) ⊎ (ahead set b c ≡ true)))
 
-  none-at-0 : candidate set inputs 0 ≡ false
-  none-at-0 = by-test (candidate set inputs 0) (λ e. absurd (no (candidate-number 0 e).0)) (λ e. e)
+  none_at_0 : candidate set inputs 0 ≡ false
+  none_at_0 = by_test (candidate set inputs 0) (λ e. absurd (no (candidate_number 0 e).0)) (λ e. e)
     where
       no : 1 ≤ 0 → ⊥
       no h = omega arith
 
   -- c is at most k, or k + 1 itself
   split : {P : Type 0} (k c : ℕ) → c ≤ suc k → (c ≤ k → P) → (c ≡ suc k → P) → P
-  split k c h f g = by-test (leb c k) (λ e. f (leb-true c k e)) (λ e. g (omega (arith, leb-false c k e)))
+  split k c h f g = by_test (leb c k) (λ e. f (leb-true c k e)) (λ e. g (omega (arith, leb-false c k e)))
 
   module _ (k b : ℕ) (below : BestBelow k b) where
     takes : candidate set inputs (suc k) ≡ true → (eqb b 0 || ahead set (suc k) b) ≡ true → BestBelow (suc k) (suc k)
@@ -115,12 +115,12 @@ module _ (set : Settings) (inputs : Inputs) where
       where
         first : BestBelow k b → (eqb b 0 ≡ true) ⊎ (ahead set (suc k) b ≡ true) → (c : ℕ) → c ≤ k → candidate set inputs c ≡ true → ahead set (suc k) c ≡ true
         first (inl n) u c l e = clash e (n.1 c l)
-        first (inr w) (inl z) c l e = clash w.0 (ap (candidate set inputs) (eqb-true b 0 z) ∙ none-at-0)
+        first (inr w) (inl z) c l e = clash w.0 (ap (candidate set inputs) (eqb-true b 0 z) ∙ none_at_0)
         first (inr w) (inr z) c l e = next (w.1 c l e)
           where
             next : (c ≡ b) ⊎ (ahead set b c ≡ true) → ahead set (suc k) c ≡ true
             next (inl q) = ap (ahead set (suc k)) q ∙ z
-            next (inr q) = ahead-trans set (suc k) b c z q
+            next (inr q) = ahead_trans set (suc k) b c z q
 
     stays : (candidate set inputs (suc k) ≡ false) ⊎ ((eqb b 0 || ahead set (suc k) b) ≡ false) → BestBelow (suc k) b
     stays (inl n) = keep below
@@ -130,31 +130,31 @@ module _ (set : Settings) (inputs : Inputs) where
         keep (inr w) = inr (w.0, λ c h e. split k c h (λ l. w.1 c l e) (λ z. clash (sym (ap (candidate set inputs) z) ∙ e) n))
     stays (inr n) = keep below
       where
-        not-0 : (b ≡ 0) → ⊥
-        not-0 z = clash {b = eqb b 0 || ahead set (suc k) b} (rw (eq-eqb b 0 z) refl) n
+        not_0 : (b ≡ 0) → ⊥
+        not_0 z = clash {b = eqb b 0 || ahead set (suc k) b} (rw (eq-eqb b 0 z) refl) n
 
         behind : ahead set (suc k) b ≡ false
-        behind = by-test (ahead set (suc k) b) (λ e. clash {b = eqb b 0 || ahead set (suc k) b} (rw e (or-true (eqb b 0))) n) (λ e. e)
+        behind = by_test (ahead set (suc k) b) (λ e. clash {b = eqb b 0 || ahead set (suc k) b} (rw e (or_true (eqb b 0))) n) (λ e. e)
 
         keep : BestBelow k b → BestBelow (suc k) b
-        keep (inl m) = absurd (not-0 m.0)
+        keep (inl m) = absurd (not_0 m.0)
         keep (inr w) = inr (w.0, λ c h e. split k c h (λ l. w.1 c l e) last)
           where
             last : {c : ℕ} → c ≡ suc k → (c ≡ b) ⊎ (ahead set b c ≡ true)
             last z =
-                by-test (eqb (suc k) b) (λ q. inl (z ∙ eqb-true (suc k) b q))
-                (λ q. inr (ap (ahead set b) z ∙ ahead-total set (suc k) b (eqb-false (suc k) b q) behind))
+                by_test (eqb (suc k) b) (λ q. inl (z ∙ eqb-true (suc k) b q))
+                (λ q. inr (ap (ahead set b) z ∙ ahead_total set (suc k) b (eqb-false (suc k) b q) behind))
 
-  best-below : (k : ℕ) → BestBelow k (bestUpTo set inputs k)
-  unfolding bestUpTo
-  best-below zero = inl (refl, λ c h. ap (candidate set inputs) (omega arith) ∙ none-at-0)
-  best-below (suc k) =
-      if-case (BestBelow (suc k)) (candidate set inputs (suc k) && t)
-      (λ e. takes k b (best-below k) (and_left (candidate set inputs (suc k)) t e) (and_right (candidate set inputs (suc k)) t e))
-      (λ e. stays k b (best-below k) (and_cases (candidate set inputs (suc k)) t e))
+  best_below : (k : ℕ) → BestBelow k (best_up_to set inputs k)
+  unfolding best_up_to
+  best_below zero = inl (refl, λ c h. ap (candidate set inputs) (omega arith) ∙ none_at_0)
+  best_below (suc k) =
+      if_case (BestBelow (suc k)) (candidate set inputs (suc k) && t)
+      (λ e. takes k b (best_below k) (and_left (candidate set inputs (suc k)) t e) (and_right (candidate set inputs (suc k)) t e))
+      (λ e. stays k b (best_below k) (and_cases (candidate set inputs (suc k)) t e))
     where
       b : ℕ
-      b = bestUpTo set inputs k
+      b = best_up_to set inputs k
 
       t : Bool
       t = eqb b 0 || ahead set (suc k) b
@@ -164,28 +164,28 @@ module _ (set : Settings) (inputs : Inputs) where
       and_cases false y e = inl refl
 
   -- there is no candidate past 9
-  best-among : (k b : ℕ) → 9 ≤ k → BestBelow k b → BestOf set inputs b
-  best-among k b h (inl n) = inl (n.0, λ c. by-test (candidate set inputs c) (λ e. clash e (n.1 c (omega (arith, (candidate-number c e).1)))) (λ e. e))
-  best-among k b h (inr w) = inr (w.0, λ c e. w.1 c (omega (arith, (candidate-number c e).1)) e)
+  best_among : (k b : ℕ) → 9 ≤ k → BestBelow k b → BestOf set inputs b
+  best_among k b h (inl n) = inl (n.0, λ c. by_test (candidate set inputs c) (λ e. clash e (n.1 c (omega (arith, (candidate_number c e).1)))) (λ e. e))
+  best_among k b h (inr w) = inr (w.0, λ c e. w.1 c (omega (arith, (candidate_number c e).1)) e)
 
   pub best_of : BestOf set inputs (best set inputs)
   unfolding best
-  best_of = best-among _ _ (omega arith) (best-below _)
+  best_of = best_among _ _ (omega arith) (best_below _)
 
   -- a candidate that is ahead of every other is the best
-  pub best-is : (r : ℕ) → candidate set inputs r ≡ true → ((c : ℕ) → candidate set inputs c ≡ true → (c ≡ r → ⊥) → ahead set r c ≡ true) → best set inputs ≡ r
-  best-is r cand first = go best_of
+  pub best_is : (r : ℕ) → candidate set inputs r ≡ true → ((c : ℕ) → candidate set inputs c ≡ true → (c ≡ r → ⊥) → ahead set r c ≡ true) → best set inputs ≡ r
+  best_is r cand first = go best_of
     where
       b : ℕ
       b = best set inputs
 
       go : BestOf set inputs b → b ≡ r
       go (inl n) = clash cand (n.1 r)
-      go (inr w) = by-test (eqb b r) (eqb-true b r) (λ e. same (w.1 r cand) (first b w.0 (eqb-false b r e)))
+      go (inr w) = by_test (eqb b r) (eqb-true b r) (λ e. same (w.1 r cand) (first b w.0 (eqb-false b r e)))
         where
           same : (r ≡ b) ⊎ (ahead set b r ≡ true) → ahead set r b ≡ true → b ≡ r
           same (inl q) f = sym q
-          same (inr q) f = absurd (ahead-asym set b r q f)
+          same (inr q) f = absurd (ahead_asym set b r q f)
 
-pub best-candidate : BestCandidate
-best-candidate = best_of
+pub best_candidate : BestCandidate
+best_candidate = best_of

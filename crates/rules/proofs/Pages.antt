@@ -7,52 +7,52 @@ use native.Mathlib.Omega.{arith}
 use lib.Dec.{ltb}
 use lib.ListN.{length, take, drop, length-append, length-take, length-drop, length-replicate}
 use lib.Seq.{take_at, drop-append-add}
-use Rattle.rules.specs.Printout.{lineFeed, hexadecimal}
-use Rattle.rules.specs.Pages.{leftIn, rightIn, recordColumns, lineColumns, lineBytes, pageLines, pageBytes, pageCount, pageLine, joined, page, pagesOf}
-use Rattle.rules.proofs.Tests.{if-case}
+use Rattle.rules.specs.Printout.{line_feed, hexadecimal}
+use Rattle.rules.specs.Pages.{left_in, right_in, record_columns, line_columns, line_bytes, page_lines, page_bytes, page_count, page_line, joined, page, pages_of}
+use Rattle.rules.proofs.Tests.{if_case}
 
 -- ---- lengths
 
-pub length-left : (width : ℕ) (text : List ℕ) → length (leftIn width text) ≡ width
-unfolding leftIn
-length-left width text = simp (length-take, length-append, length-replicate) (omega arith)
+pub length_left : (width : ℕ) (text : List ℕ) → length (left_in width text) ≡ width
+unfolding left_in
+length_left width text = simp (length-take, length-append, length-replicate) (omega arith)
 
-pub length-right : (width : ℕ) (text : List ℕ) → length (rightIn width text) ≡ width
-unfolding rightIn
-length-right width text = simp (length-drop, length-append, length-replicate) (omega arith)
+pub length_right : (width : ℕ) (text : List ℕ) → length (right_in width text) ≡ width
+unfolding right_in
+length_right width text = simp (length-drop, length-append, length-replicate) (omega arith)
 
-length-hexadecimal : (n : ℕ) → length (hexadecimal n) ≡ 2
+length_hexadecimal : (n : ℕ) → length (hexadecimal n) ≡ 2
 unfolding hexadecimal
-length-hexadecimal n = refl
+length_hexadecimal n = refl
 
-pub length-columns : (index : ℕ) (r : List ℕ) → length (recordColumns index r) ≡ lineColumns
-unfolding recordColumns
-length-columns index r = simp (length-append, length-left, length-right, length-hexadecimal)
+pub length_columns : (index : ℕ) (r : List ℕ) → length (record_columns index r) ≡ line_columns
+unfolding record_columns
+length_columns index r = simp (length-append, length_left, length_right, length_hexadecimal)
 
-pub length-line : (n : ℕ) (records : List ℕ) (j : ℕ) → length (pageLine n records j) ≡ lineBytes
-unfolding pageLine
-length-line n records j =
-    if-case (λ (columns : List ℕ). length (columns ++ lineFeed ∷ []) ≡ lineBytes) (ltb j n) (λ t. simp (length-append, length-columns)) (λ t. refl)
+pub length_line : (n : ℕ) (records : List ℕ) (j : ℕ) → length (page_line n records j) ≡ line_bytes
+unfolding page_line
+length_line n records j =
+    if_case (λ (columns : List ℕ). length (columns ++ line_feed ∷ []) ≡ line_bytes) (ltb j n) (λ t. simp (length-append, length_columns)) (λ t. refl)
 
 -- ---- texts one after the other
 
-joined-append : (text : ℕ → List ℕ) (a b j : ℕ) → joined text (a + b) j ≡ joined text a j ++ joined text b (j + a)
+joined_append : (text : ℕ → List ℕ) (a b j : ℕ) → joined text (a + b) j ≡ joined text a j ++ joined text b (j + a)
 unfolding joined
-joined-append text zero b j = rw (zero-add b, add-zero j) refl
-joined-append text (suc a) b j =
+joined_append text zero b j = rw (zero-add b, add-zero j) refl
+joined_append text (suc a) b j =
     let next : j + 1 + a ≡ j + suc a = omega arith in
-    rw (suc-add a b, joined-append text a b (j + 1), next) (sym (append_assoc (text j) (joined text a (j + 1)) (joined text b (j + suc a))))
+    rw (suc-add a b, joined_append text a b (j + 1), next) (sym (append_assoc (text j) (joined text a (j + 1)) (joined text b (j + suc a))))
 
 -- one more
-pub joined-more : (text : ℕ → List ℕ) (j : ℕ) → joined text (j + 1) 0 ≡ joined text j 0 ++ text j
+pub joined_more : (text : ℕ → List ℕ) (j : ℕ) → joined text (j + 1) 0 ≡ joined text j 0 ++ text j
 unfolding joined
-joined-more text j = joined-append text j 1 0 ∙ ap (λ (l : List ℕ). joined text j 0 ++ l) (append-nil (text (0 + j)) ∙ ap text (zero-add j))
+joined_more text j = joined_append text j 1 0 ∙ ap (λ (l : List ℕ). joined text j 0 ++ l) (append-nil (text (0 + j)) ∙ ap text (zero-add j))
 
 module _ (text : ℕ → List ℕ) (w : ℕ) (each : (j : ℕ) → length (text j) ≡ w) where
-  pub length-joined : (k j : ℕ) → length (joined text k j) ≡ w * k
+  pub length_joined : (k j : ℕ) → length (joined text k j) ≡ w * k
   unfolding joined
-  length-joined zero j = sym (mul-zero w)
-  length-joined (suc k) j = length-append (text j) (joined text k (j + 1)) ∙ omega (arith, mul-suc w k, each j, length-joined k (j + 1))
+  length_joined zero j = sym (mul-zero w)
+  length_joined (suc k) j = length-append (text j) (joined text k (j + 1)) ∙ omega (arith, mul-suc w k, each j, length_joined k (j + 1))
 
   -- of k texts from that of j on, the one at i
   pub joined_at : (k j i : ℕ) → i < k → take w (drop (w * i) (joined text k j)) ≡ text (j + i)
@@ -66,23 +66,23 @@ module _ (text : ℕ → List ℕ) (w : ℕ) (each : (j : ℕ) → length (text 
 
 -- ---- pages
 
-pub length-page : (n : ℕ) (records : List ℕ) (p : ℕ) → length (page n records p) ≡ pageBytes
+pub length_page : (n : ℕ) (records : List ℕ) (p : ℕ) → length (page n records p) ≡ page_bytes
 unfolding page
-length-page n records p = length-joined (pageLine n records) lineBytes (length-line n records) pageLines (pageLines * p)
+length_page n records p = length_joined (page_line n records) line_bytes (length_line n records) page_lines (page_lines * p)
 
-pub length-pages : (n : ℕ) (records : List ℕ) → length (pagesOf n records) ≡ pageBytes * pageCount n
-unfolding pagesOf
-length-pages n records = length-joined (page n records) pageBytes (length-page n records) (pageCount n) 0
+pub length_pages : (n : ℕ) (records : List ℕ) → length (pages_of n records) ≡ page_bytes * page_count n
+unfolding pages_of
+length_pages n records = length_joined (page n records) page_bytes (length_page n records) (page_count n) 0
 
 -- k pages are their lines
-pages-lines : (n : ℕ) (records : List ℕ) (k p : ℕ) → joined (page n records) k p ≡ joined (pageLine n records) (pageLines * k) (pageLines * p)
+pages_lines : (n : ℕ) (records : List ℕ) (k p : ℕ) → joined (page n records) k p ≡ joined (page_line n records) (page_lines * k) (page_lines * p)
 unfolding joined page
-pages-lines n records zero p = refl
-pages-lines n records (suc k) p =
-    let more : pageLines * suc k ≡ pageLines + pageLines * k = omega arith in
-    let next : pageLines * (p + 1) ≡ pageLines * p + pageLines = omega arith in
-    rw (more, joined-append (pageLine n records) pageLines (pageLines * k) (pageLines * p), pages-lines n records k (p + 1), next) refl
+pages_lines n records zero p = refl
+pages_lines n records (suc k) p =
+    let more : page_lines * suc k ≡ page_lines + page_lines * k = omega arith in
+    let next : page_lines * (p + 1) ≡ page_lines * p + page_lines = omega arith in
+    rw (more, joined_append (page_line n records) page_lines (page_lines * k) (page_lines * p), pages_lines n records k (p + 1), next) refl
 
-pub all_lines : (n : ℕ) (records : List ℕ) → pagesOf n records ≡ joined (pageLine n records) (pageLines * pageCount n) 0
-unfolding pagesOf
-all_lines n records = pages-lines n records (pageCount n) 0
+pub all_lines : (n : ℕ) (records : List ℕ) → pages_of n records ≡ joined (page_line n records) (page_lines * page_count n) 0
+unfolding pages_of
+all_lines n records = pages_lines n records (page_count n) 0

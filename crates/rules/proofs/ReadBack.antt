@@ -7,40 +7,40 @@ use lib.Dec.{ltb}
 use lib.ListN.{length, get_or, take, drop}
 use lib.Seq.{take_at, drop-append-add, get_or-drop}
 use borrow.Author.Tests.{lt-ltb, le-ltb, ltb-true, ltb-false}
-use Rattle.rules.specs.Printout.{blank, lineFeed, digit, decimal, hexadecimal}
-use Rattle.rules.specs.Pages.{blanks, leftIn, rightIn, stateNames, stateName, recordColumns}
+use Rattle.rules.specs.Printout.{blank, line_feed, digit, decimal, hexadecimal}
+use Rattle.rules.specs.Pages.{blanks, left_in, right_in, state_names, state_name, record_columns}
 use Rattle.rules.specs.Laws.{number, RecordBytes}
-use Rattle.rules.specs.PageLaws.{digitRead, same, nameRead, lineRead}
-use Rattle.rules.proofs.Tests.{by-test}
-use Rattle.rules.proofs.Digits.{few-digits, decimal-digits}
-use Rattle.rules.proofs.Pages.{length-left, length-right}
+use Rattle.rules.specs.PageLaws.{digit_read, same, name_read, line_read}
+use Rattle.rules.proofs.Tests.{by_test}
+use Rattle.rules.proofs.Digits.{few_digits, decimal_digits}
+use Rattle.rules.proofs.Pages.{length_left, length_right}
 
 -- ---- one field
 
 -- a number behind blanks
-number-blanks : (w : ℕ) (text : List ℕ) → number 0 (blanks w ++ text) ≡ number 0 text
+number_blanks : (w : ℕ) (text : List ℕ) → number 0 (blanks w ++ text) ≡ number 0 text
 unfolding number
-number-blanks zero text = refl
-number-blanks (suc w) text = number-blanks w text
+number_blanks zero text = refl
+number_blanks (suc w) text = number_blanks w text
 
-number-right : (k w : ℕ) (text : List ℕ) → k ≤ w → number 0 (drop k (blanks w ++ text)) ≡ number 0 text
-number-right zero w text h = number-blanks w text
-number-right (suc k) zero text h = absurd (omega arith)
-number-right (suc k) (suc w) text h = number-right k w text (omega arith)
+number_right : (k w : ℕ) (text : List ℕ) → k ≤ w → number 0 (drop k (blanks w ++ text)) ≡ number 0 text
+number_right zero w text h = number_blanks w text
+number_right (suc k) zero text h = absurd (omega arith)
+number_right (suc k) (suc w) text h = number_right k w text (omega arith)
 
-read_number : (k n : ℕ) → n < 10 ^ suc k → number 0 (rightIn (suc k) (decimal n)) ≡ n
-unfolding rightIn
-read_number k n h = number-right (length (decimal n)) (suc k) (decimal n) (few-digits k n h) ∙ decimal-digits n
+read_number : (k n : ℕ) → n < 10 ^ suc k → number 0 (right_in (suc k) (decimal n)) ≡ n
+unfolding right_in
+read_number k n h = number_right (length (decimal n)) (suc k) (decimal n) (few_digits k n h) ∙ decimal_digits n
 
-read-digit : (d : ℕ) → d < 16 → digitRead (digit d) ≡ d
-unfolding digit digitRead
-read-digit d h =
-    by-test (ltb d 10)
+read_digit : (d : ℕ) → d < 16 → digit_read (digit d) ≡ d
+unfolding digit digit_read
+read_digit d h =
+    by_test (ltb d 10)
     (λ t. let small = ltb-true d 10 t in rw (t, lt-ltb (48 + d) 97 (omega arith)) (omega arith))
     (λ t. let large = ltb-false d 10 t in rw (t, le-ltb (87 + d) 97 (omega arith)) (omega arith))
 
-read_name : (k : ℕ) → k ≤ 5 → nameRead (leftIn 12 (stateName k)) stateNames ≡ k
-unfolding nameRead same leftIn stateName
+read_name : (k : ℕ) → k ≤ 5 → name_read (left_in 12 (state_name k)) state_names ≡ k
+unfolding name_read same left_in state_name
 read_name zero h = refl
 read_name (suc zero) h = refl
 read_name (suc (suc zero)) h = refl
@@ -60,7 +60,7 @@ past w k x y e = rw (← e) (drop-append-add x (blank ∷ y) (suc k))
 
 -- the line of five fields, of which the last has two columns
 abbrev line_of : List ℕ → List ℕ → List ℕ → List ℕ → ℕ → ℕ → List ℕ
-line_of a b c d high low = (a ++ blank ∷ b ++ blank ∷ c ++ blank ∷ d ++ blank ∷ high ∷ low ∷ []) ++ lineFeed ∷ []
+line_of a b c d high low = (a ++ blank ∷ b ++ blank ∷ c ++ blank ∷ d ++ blank ∷ high ∷ low ∷ []) ++ line_feed ∷ []
 
 record Fields (a b c d : List ℕ) (high low : ℕ) (line : List ℕ) : Type 0 where
   index : take 5 line ≡ a
@@ -70,14 +70,14 @@ record Fields (a b c d : List ℕ) (high low : ℕ) (line : List ℕ) : Type 0 w
   first : get_or line 25 0 ≡ high
   second : get_or line 26 0 ≡ low
 
-fields-of : (a b c d : List ℕ) (high low : ℕ) → length a ≡ 5 → length b ≡ 12 → length c ≡ 2 → length d ≡ 2 → Fields a b c d high low (line_of a b c d high low)
-fields-of a b c d high low p q r s =
-    let fifth = high ∷ low ∷ lineFeed ∷ [] in
+fields_of : (a b c d : List ℕ) (high low : ℕ) → length a ≡ 5 → length b ≡ 12 → length c ≡ 2 → length d ≡ 2 → Fields a b c d high low (line_of a b c d high low)
+fields_of a b c d high low p q r s =
+    let fifth = high ∷ low ∷ line_feed ∷ [] in
     let fourth = d ++ blank ∷ fifth in
     let third = c ++ blank ∷ fourth in
     let second = b ++ blank ∷ third in
     let flat : line_of a b c d high low ≡ a ++ blank ∷ second =
-    regroup a (blank ∷ b) (blank ∷ c) (blank ∷ d) (blank ∷ high ∷ low ∷ []) (lineFeed ∷ []) in
+    regroup a (blank ∷ b) (blank ∷ c) (blank ∷ d) (blank ∷ high ∷ low ∷ []) (line_feed ∷ []) in
     let at6 : drop 6 (a ++ blank ∷ second) ≡ second = past 5 0 a second p in
     let at19 : drop 19 (a ++ blank ∷ second) ≡ third = past 5 13 a second p ∙ past 12 0 b third q in
     let at22 : drop 22 (a ++ blank ∷ second) ≡ fourth = past 5 16 a second p ∙ past 12 3 b third q ∙ past 2 0 c fourth r in
@@ -92,15 +92,15 @@ fields-of a b c d high low p q r s =
       second = sym (get_or-drop 25 (a ++ blank ∷ second) 1 0) ∙ ap (λ (l : List ℕ). get_or l 1 0) at25;
     })
 
-pub read-line : (index : ℕ) (r : List ℕ) → index < 100_000 → RecordBytes r
-    → lineRead (recordColumns index r ++ lineFeed ∷ [])
+pub read_line : (index : ℕ) (r : List ℕ) → index < 100_000 → RecordBytes r
+    → line_read (record_columns index r ++ line_feed ∷ [])
     ≡ record { index = index; state = get_or r 1 0 / 16; selected = get_or r 1 0 % 16; refusal = get_or r 0 0; status = get_or r 3 0 }
-unfolding lineRead recordColumns hexadecimal
-read-line index r small b =
+unfolding line_read record_columns hexadecimal
+read_line index r small b =
     let byte = get_or r 3 0 in
-    let f = fields-of (rightIn 5 (decimal index)) (leftIn 12 (stateName (get_or r 1 0 / 16))) (rightIn 2 (decimal (get_or r 1 0 % 16))) (rightIn 2 (decimal (get_or r 0 0)))
-    (digit (byte / 16 % 16)) (digit (byte % 16)) (length-right 5 _) (length-left 12 _) (length-right 2 _) (length-right 2 _) in
-    let status : 16 * (byte / 16 % 16) + byte % 16 ≡ byte = omega (arith, b.status-lt) in
+    let f = fields_of (right_in 5 (decimal index)) (left_in 12 (state_name (get_or r 1 0 / 16))) (right_in 2 (decimal (get_or r 1 0 % 16))) (right_in 2 (decimal (get_or r 0 0)))
+    (digit (byte / 16 % 16)) (digit (byte % 16)) (length_right 5 _) (length_left 12 _) (length_right 2 _) (length_right 2 _) in
+    let status : 16 * (byte / 16 % 16) + byte % 16 ≡ byte = omega (arith, b.status_lt) in
     rw (
       f.index,
       f.state,
@@ -109,10 +109,10 @@ read-line index r small b =
       f.first,
       f.second,
       read_number 4 index small,
-      read_name (get_or r 1 0 / 16) b.state-le,
+      read_name (get_or r 1 0 / 16) b.state_le,
       read_number 1 (get_or r 1 0 % 16) (omega arith),
-      read_number 1 (get_or r 0 0) (omega (arith, b.refusal-le)),
-      read-digit (byte / 16 % 16) (omega arith),
-      read-digit (byte % 16) (omega arith),
+      read_number 1 (get_or r 0 0) (omega (arith, b.refusal_le)),
+      read_digit (byte / 16 % 16) (omega arith),
+      read_digit (byte % 16) (omega arith),
       status,
     ) refl

@@ -9,83 +9,83 @@ use lib.ListN.{length, get_or}
 use lib.Seq.{get_or-append-add}
 use Rattle.rules.specs.Words.{if◌then◌else◌, bit}
 use Rattle.rules.specs.Events.{Event}
-use Rattle.rules.specs.Pll.{Mode, holdover, freeRun, locked, is}
+use Rattle.rules.specs.Pll.{Mode, holdover, free_run, locked, is}
 use Rattle.rules.specs.Settings.{delay, reversion}
-use Rattle.rules.specs.Buckets.{startBucket, bucketOf}
+use Rattle.rules.specs.Buckets.{start_bucket, bucket_of}
 use Rattle.rules.specs.State.{selected, mode, Ready}
 use Rattle.rules.specs.History.{held}
 use Rattle.rules.specs.Registers.{fresh}
-use Rattle.rules.specs.Reading.{stateByte, statusByte}
+use Rattle.rules.specs.Reading.{state_byte, status_byte}
 use Rattle.rules.specs.Refusals.{refusal}
 use Rattle.rules.specs.Run.{next, run, outcome}
-use Rattle.rules.specs.Sheet.{sheetEvents, check, recordOf, records, front}
+use Rattle.rules.specs.Sheet.{sheet_events, check, record_of, records, front}
 use Rattle.rules.proofs.Counts.{delays}
-use Rattle.rules.proofs.SoundBuckets.{start-bucket}
-use Rattle.rules.proofs.Callless.{callless-front, no-calls, untouched}
+use Rattle.rules.proofs.SoundBuckets.{start_bucket_assigned}
+use Rattle.rules.proofs.Callless.{callless_front, no_calls, untouched}
 use Rattle.rules.proofs.Loading.{standard}
-use Rattle.rules.proofs.Service.{run-append, promise-at-start}
-use Rattle.rules.proofs.Sheets.{record_is, records-append, length-records}
+use Rattle.rules.proofs.Service.{run_append, promise_at_start}
+use Rattle.rules.proofs.Sheets.{record_is, records_append, length_records}
 use Rattle.rules.specs.Laws.{Callless}
 use Rattle.rules.specs.Service.{Provisos}
 use Rattle.rules.specs.Records.{byte_of, RecordsPromise}
 
 -- an element behind a list
-getD-behind : (l m : List ℕ) (n k : ℕ) → length l ≡ n → get_or (l ++ m) (n + k) 0 ≡ get_or m k 0
-getD-behind l m n k e = rw (← e) (get_or-append-add l m k 0)
+get_d_behind : (l m : List ℕ) (n k : ℕ) → length l ≡ n → get_or (l ++ m) (n + k) 0 ≡ get_or m k 0
+get_d_behind l m n k e = rw (← e) (get_or-append-add l m k 0)
 
 -- Ready is bit 2 of 0x49
-ready-bit : (a b h : Bool) → bit ((if a then 1 else 0) + (if b then 0 else 2) + 4 + (if h then 8 else 0)) 2 ≡ true
+ready_bit : (a b h : Bool) → bit ((if a then 1 else 0) + (if b then 0 else 2) + 4 + (if h then 8 else 0)) 2 ≡ true
 unfolding bit
-ready-bit true true true = refl
-ready-bit true true false = refl
-ready-bit true false true = refl
-ready-bit true false false = refl
-ready-bit false true true = refl
-ready-bit false true false = refl
-ready-bit false false true = refl
-ready-bit false false false = refl
+ready_bit true true true = refl
+ready_bit true true false = refl
+ready_bit true false true = refl
+ready_bit true false false = refl
+ready_bit false true true = refl
+ready_bit false true false = refl
+ready_bit false false true = refl
+ready_bit false false false = refl
 
-shows-ready : (m : Mode) (isReady is_held : Bool) → isReady ≡ true → bit (statusByte m isReady is_held) 2 ≡ true
-unfolding statusByte
-shows-ready m isReady is_held e = rw e (ready-bit (is holdover m || is freeRun m) (is locked m) is_held)
+shows_ready : (m : Mode) (isReady is_held : Bool) → isReady ≡ true → bit (status_byte m isReady is_held) 2 ≡ true
+unfolding status_byte
+shows_ready m isReady is_held e = rw e (ready_bit (is holdover m || is free_run m) (is locked m) is_held)
 
-shows-selected : (m : Mode) (selected r : ℕ) → r ≤ 8 → selected ≡ r → stateByte m selected % 16 ≡ r
-unfolding stateByte
-shows-selected m selected r h e = omega (arith, h, e)
+shows_selected : (m : Mode) (selected r : ℕ) → r ≤ 8 → selected ≡ r → state_byte m selected % 16 ≡ r
+unfolding state_byte
+shows_selected m selected r h e = omega (arith, h, e)
 
 -- the record of the event e, which comes after xs
-bytes-are : (sheet : List ℕ) (room : ℕ) (xs : List Event) (e : Event) (rest : List Event) (k : ℕ)
-    → check sheet room ≡ 0 → sheetEvents sheet ≡ xs ++ (e ∷ rest)
-    → byte_of (front sheet room) (length xs) k ≡ get_or (recordOf (outcome (run fresh xs) e) ++ records (outcome (run fresh xs) e).state rest) k 0
+bytes_are : (sheet : List ℕ) (room : ℕ) (xs : List Event) (e : Event) (rest : List Event) (k : ℕ)
+    → check sheet room ≡ 0 → sheet_events sheet ≡ xs ++ (e ∷ rest)
+    → byte_of (front sheet room) (length xs) k ≡ get_or (record_of (outcome (run fresh xs) e) ++ records (outcome (run fresh xs) e).state rest) k 0
 unfolding front records
-bytes-are sheet room xs e rest k zero events =
+bytes_are sheet room xs e rest k zero events =
     rw (eq-eqb (check sheet room) 0 zero, events)
-    (ap (λ (l : List ℕ). get_or l (4 * length xs + k) 0) (records-append fresh xs (e ∷ rest))
-    ∙ getD-behind (records fresh xs) (records (run fresh xs) (e ∷ rest)) (4 * length xs) k (length-records fresh xs))
+    (ap (λ (l : List ℕ). get_or l (4 * length xs + k) 0) (records_append fresh xs (e ∷ rest))
+    ∙ get_d_behind (records fresh xs) (records (run fresh xs) (e ∷ rest)) (4 * length xs) k (length_records fresh xs))
 
 -- the state after e, by the whole list
-state-after : (before after : List Event) (e : Event) → next (run fresh (before ++ after)) e ≡ run fresh (before ++ ((after ++ (e ∷ [])) ++ []))
+state_after : (before after : List Event) (e : Event) → next (run fresh (before ++ after)) e ≡ run fresh (before ++ ((after ++ (e ∷ [])) ++ []))
 unfolding run
-state-after before after e =
-    sym (run-append (before ++ after) (e ∷ []) fresh)
+state_after before after e =
+    sym (run_append (before ++ after) (e ∷ []) fresh)
     ∙ ap (run fresh) (append_assoc before after (e ∷ []) ∙ ap (λ (l : List Event). before ++ l) (sym (append-nil (after ++ (e ∷ [])))))
 
 -- THE PROMISE IN THE RECORDS
-pub records-promise : RecordsPromise
+pub records_promise : RecordsPromise
 unfolding outcome
-records-promise sheet room before after e rest r zero events p =
+records_promise sheet room before after e rest r zero events p =
     let xs = before ++ after in
     let now = next (run fresh xs) e in
     let bytes = record_is (refusal (run fresh xs) e) now in
-    let same = state-after before after e in
-    let plain = callless-front before after (callless-front xs (e ∷ rest) (subst Callless events (no-calls sheet))) in
-    let set = untouched fresh standard.is-fresh before plain in
-    let start : bucketOf (run fresh before).buckets r ≡ startBucket = rw set.0 (start-bucket r) in
+    let same = state_after before after e in
+    let plain = callless_front before after (callless_front xs (e ∷ rest) (subst Callless events (no_calls sheet))) in
+    let set = untouched fresh standard.is_fresh before plain in
+    let start : bucket_of (run fresh before).buckets r ≡ start_bucket = rw set.0 (start_bucket_assigned r) in
     let met = subst (Provisos r (run fresh before)) (sym (append-nil (after ++ (e ∷ [])))) p in
-    let served = promise-at-start fresh standard.is-fresh before (after ++ (e ∷ [])) [] r (reversion (run fresh before).settings) set.1 start (delays (delay (run fresh before).settings)) met in
-    let state = bytes-are sheet room xs e rest 1 zero events ∙ ap (λ (l : List ℕ). get_or (l ++ records now rest) 1 0) bytes in
-    let status = bytes-are sheet room xs e rest 3 zero events ∙ ap (λ (l : List ℕ). get_or (l ++ records now rest) 3 0) bytes in
+    let served = promise_at_start fresh standard.is_fresh before (after ++ (e ∷ [])) [] r (reversion (run fresh before).settings) set.1 start (delays (delay (run fresh before).settings)) met in
+    let state = bytes_are sheet room xs e rest 1 zero events ∙ ap (λ (l : List ℕ). get_or (l ++ records now rest) 1 0) bytes in
+    let status = bytes_are sheet room xs e rest 3 zero events ∙ ap (λ (l : List ℕ). get_or (l ++ records now rest) 3 0) bytes in
     record {
-      selected-is = λ ticks. ap (λ (n : ℕ). n % 16) state ∙ shows-selected (mode now) (selected now) r p.high (ap selected same ∙ served.selected-is ticks);
-      ready-is = λ ticks. ap (λ (n : ℕ). bit n 2) status ∙ shows-ready (mode now) (Ready now) (held now.history.backup) (ap Ready same ∙ served.ready-is ticks);
+      selected_is = λ ticks. ap (λ (n : ℕ). n % 16) state ∙ shows_selected (mode now) (selected now) r p.high (ap selected same ∙ served.selected_is ticks);
+      ready_is = λ ticks. ap (λ (n : ℕ). bit n 2) status ∙ shows_ready (mode now) (Ready now) (held now.history.backup) (ap Ready same ∙ served.ready_is ticks);
     }

@@ -9,22 +9,22 @@ use borrow.Author.Tests.{eqb-true, eqb-false, leb-true, le-leb}
 use Rattle.rules.specs.Words.{if◌then◌else◌, between}
 
 -- what both arms have, the choice has
-pub if-case : {A : Type 0} (P : A → Type 0) (b : Bool) {x y : A} → (b ≡ true → P x) → (b ≡ false → P y) → P (if b then x else y)
-if-case P true f g = f refl
-if-case P false f g = g refl
+pub if_case : {A : Type 0} (P : A → Type 0) (b : Bool) {x y : A} → (b ≡ true → P x) → (b ≡ false → P y) → P (if b then x else y)
+if_case P true f g = f refl
+if_case P false f g = g refl
 
 -- a choice between two numbers has the bound that both have
-pub if-le : (b : Bool) {x y n : ℕ} → x ≤ n → y ≤ n → (if b then x else y) ≤ n
-if-le b {x} {y} {n} h k = if-case (λ m. m ≤ n) b (λ e. h) (λ e. k)
+pub if_le : (b : Bool) {x y n : ℕ} → x ≤ n → y ≤ n → (if b then x else y) ≤ n
+if_le b {x} {y} {n} h k = if_case (λ m. m ≤ n) b (λ e. h) (λ e. k)
 
 -- a choice between two numbers is at most their sum
-pub if-sum : (b : Bool) (x y : ℕ) → (if b then x else y) ≤ x + y
-if-sum b x y = if-le b (omega arith) (omega arith)
+pub if_sum : (b : Bool) (x y : ℕ) → (if b then x else y) ≤ x + y
+if_sum b x y = if_le b (omega arith) (omega arith)
 
 -- what holds whether a test passes or fails
-pub by-test : {P : Type 0} (b : Bool) → (b ≡ true → P) → (b ≡ false → P) → P
-by-test true f g = f refl
-by-test false f g = g refl
+pub by_test : {P : Type 0} (b : Bool) → (b ≡ true → P) → (b ≡ false → P) → P
+by_test true f g = f refl
+by_test false f g = g refl
 
 -- a test does not both pass and fail
 pub clash : {P : Type 0} {b : Bool} → b ≡ true → b ≡ false → P
@@ -34,13 +34,13 @@ pub not-true : (a : Bool) → not a ≡ true → a ≡ false
 not-true true e = sym e
 not-true false e = refl
 
-pub or-true : (a : Bool) → (a || true) ≡ true
-or-true true = refl
-or-true false = refl
+pub or_true : (a : Bool) → (a || true) ≡ true
+or_true true = refl
+or_true false = refl
 
-pub and-false : (a : Bool) → (a && false) ≡ false
-and-false true = refl
-and-false false = refl
+pub and_false : (a : Bool) → (a && false) ≡ false
+and_false true = refl
+and_false false = refl
 
 pub and_left : (a b : Bool) → (a && b) ≡ true → a ≡ true
 and_left true b e = refl
@@ -65,8 +65,8 @@ low lo hi n e = leb-true lo n (and_left (leb lo n) (leb n hi) e)
 pub high : (lo hi n : ℕ) → between lo hi n ≡ true → n ≤ hi
 high lo hi n e = leb-true n hi (and_right (leb lo n) (leb n hi) e)
 
-pub is-between : (lo hi n : ℕ) → lo ≤ n → n ≤ hi → between lo hi n ≡ true
-is-between lo hi n l h = rw (le-leb lo n l, le-leb n hi h) refl
+pub is_between : (lo hi n : ℕ) → lo ≤ n → n ≤ hi → between lo hi n ≡ true
+is_between lo hi n l h = rw (le-leb lo n l, le-leb n hi h) refl
 
 -- 0, so this test did not lead to its refusal, and no later one did
 pub unrefused : (b : Bool) (n rest : ℕ) → (if b then suc n else rest) ≡ 0 → (b ≡ false) × (rest ≡ 0)
@@ -77,10 +77,10 @@ unrefused true n rest e = absurd (some e)
 unrefused false n rest e = (refl, e)
 
 -- accepted, so the one test did not fail
-pub zero-if : (b : Bool) (n : ℕ) → eqb (if b then 0 else suc n) 0 ≡ true → b ≡ true
-zero-if true n e = refl
-zero-if false n e = absurd (false≢true (sym (eqb-suc-zero n) ∙ e))
+pub zero_if : (b : Bool) (n : ℕ) → eqb (if b then 0 else suc n) 0 ≡ true → b ≡ true
+zero_if true n e = refl
+zero_if false n e = absurd (false≢true (sym (eqb-suc-zero n) ∙ e))
 
 -- what holds below a place and at it holds below the next
 pub one_more : (P : ℕ → Type 0) (k : ℕ) → ((j : ℕ) → j < k → P j) → P k → (j : ℕ) → j < k + 1 → P j
-one_more P k below at j h = by-test (eqb j k) (λ e. subst P (sym (eqb-true j k e)) at) (λ e. below j (omega (arith, h, eqb-false j k e)))
+one_more P k below at j h = by_test (eqb j k) (λ e. subst P (sym (eqb-true j k e)) at) (λ e. below j (omega (arith, h, eqb-false j k e)))

@@ -9,44 +9,44 @@ use lib.Dec.{leb, ltb}
 use lib.ListN.{length}
 use borrow.Author.Tests.{leb-true, leb-false, ltb-true, ltb-false, eq-eqb, le-leb, lt-leb, le-ltb, lt-ltb}
 use Rattle.rules.specs.Words.{if◌then◌else◌}
-use Rattle.rules.specs.Week.{weekTicks, Window, inWindow, busy, advanced, longest, isWindow, ascending, startsWeek, last_end, endsWeek, windowsFit}
-use Rattle.rules.specs.BusyHours.{placeAfter, BlockedRun}
-use Rattle.rules.proofs.Tests.{if-case, by-test, clash, and-false, and_left, and_right}
+use Rattle.rules.specs.Week.{week_ticks, Window, in_window, busy, advanced, longest, is_window, ascending, starts_week, last_end, ends_week, windows_fit}
+use Rattle.rules.specs.BusyHours.{place_after, BlockedRun}
+use Rattle.rules.proofs.Tests.{if_case, by_test, clash, and_false, and_left, and_right}
 
 -- how many ticks are blocked from this place on, up to the end of the window that it lies in
-unfoldable pub blockedFor : List Window → ℕ → ℕ
-blockedFor [] p = 0
-blockedFor (w ∷ ws) p = if inWindow p w then w.end - p else blockedFor ws p
+unfoldable pub blocked_for : List Window → ℕ → ℕ
+blocked_for [] p = 0
+blocked_for (w ∷ ws) p = if in_window p w then w.end - p else blocked_for ws p
 
 -- ---- a place and a window
 
-inside : (w : Window) (p : ℕ) → inWindow p w ≡ true → (w.start ≤ p) × (p < w.end)
-unfolding inWindow
+inside : (w : Window) (p : ℕ) → in_window p w ≡ true → (w.start ≤ p) × (p < w.end)
+unfolding in_window
 inside w p e = (leb-true w.start p (and_left (leb w.start p) (ltb p w.end) e), ltb-true p w.end (and_right (leb w.start p) (ltb p w.end) e))
 
-ahead_of : (w : Window) (p : ℕ) → p < w.start → inWindow p w ≡ false
-unfolding inWindow
+ahead_of : (w : Window) (p : ℕ) → p < w.start → in_window p w ≡ false
+unfolding in_window
 ahead_of w p h = rw (lt-leb w.start p h) refl
 
-past : (w : Window) (p : ℕ) → w.end ≤ p → inWindow p w ≡ false
-unfolding inWindow
-past w p h = rw (le-ltb p w.end h) (and-false (leb w.start p))
+past : (w : Window) (p : ℕ) → w.end ≤ p → in_window p w ≡ false
+unfolding in_window
+past w p h = rw (le-ltb p w.end h) (and_false (leb w.start p))
 
-amid : (w : Window) (p : ℕ) → w.start ≤ p → p < w.end → inWindow p w ≡ true
-unfolding inWindow
+amid : (w : Window) (p : ℕ) → w.start ≤ p → p < w.end → in_window p w ≡ true
+unfolding in_window
 amid w p lo hi = rw (le-leb w.start p lo, lt-ltb p w.end hi) refl
 
-pub busy-some : (ws : List Window) (p : ℕ) → busy ws p ≡ true → 1 ≤ blockedFor ws p
-unfolding busy blockedFor
-busy-some [] p e = absurd (false≢true e)
-busy-some (w ∷ ws) p e =
-    if-case (λ n. 1 ≤ n) (inWindow p w) (λ t. omega (arith, (inside w p t).1)) (λ t. busy-some ws p (rw t at e))
+pub busy_some : (ws : List Window) (p : ℕ) → busy ws p ≡ true → 1 ≤ blocked_for ws p
+unfolding busy blocked_for
+busy_some [] p e = absurd (false≢true e)
+busy_some (w ∷ ws) p e =
+    if_case (λ n. 1 ≤ n) (in_window p w) (λ t. omega (arith, (inside w p t).1)) (λ t. busy_some ws p (rw t at e))
 
-pub blocked-longest : (ws : List Window) (p : ℕ) → blockedFor ws p ≤ longest ws
-unfolding blockedFor longest
-blocked-longest [] p = omega arith
-blocked-longest (w ∷ ws) p =
-    if-case (λ n. n ≤ longest (w ∷ ws)) (inWindow p w) (λ t. omega (arith, (inside w p t).0)) (λ t. omega (arith, blocked-longest ws p))
+pub blocked_longest : (ws : List Window) (p : ℕ) → blocked_for ws p ≤ longest ws
+unfolding blocked_for longest
+blocked_longest [] p = omega arith
+blocked_longest (w ∷ ws) p =
+    if_case (λ n. n ≤ longest (w ∷ ws)) (in_window p w) (λ t. omega (arith, (inside w p t).0)) (λ t. omega (arith, blocked_longest ws p))
 
 -- ---- windows that ascend
 
@@ -56,109 +56,109 @@ module _ (from : ℕ) (w : Window) (ws : List Window) (ok : ascending from (w �
   unfolding ascending
   starts = leb-true from w.start (and_left (leb from w.start) _ ok)
 
-  one : isWindow w ≡ true
+  one : is_window w ≡ true
   unfolding ascending
-  one = and_left (isWindow w) _ (and_right (leb from w.start) _ ok)
+  one = and_left (is_window w) _ (and_right (leb from w.start) _ ok)
 
   ordered : w.start < w.end
-  unfolding isWindow
+  unfolding is_window
   ordered = ltb-true w.start w.end (and_left (ltb w.start w.end) _ one)
 
-  ends : w.end ≤ weekTicks
-  unfolding isWindow
-  ends = leb-true w.end weekTicks (and_right (ltb w.start w.end) _ one)
+  ends : w.end ≤ week_ticks
+  unfolding is_window
+  ends = leb-true w.end week_ticks (and_right (ltb w.start w.end) _ one)
 
   rest : ascending (w.end + 1) ws ≡ true
   unfolding ascending
-  rest = and_right (isWindow w) _ (and_right (leb from w.start) _ ok)
+  rest = and_right (is_window w) _ (and_right (leb from w.start) _ ok)
 
 -- nothing is blocked before the first start
-free-below : (from : ℕ) (ws : List Window) (p : ℕ) → ascending from ws ≡ true → p < from → blockedFor ws p ≡ 0
-unfolding blockedFor
-free-below from [] p ok h = refl
-free-below from (w ∷ ws) p ok h =
+free_below : (from : ℕ) (ws : List Window) (p : ℕ) → ascending from ws ≡ true → p < from → blocked_for ws p ≡ 0
+unfolding blocked_for
+free_below from [] p ok h = refl
+free_below from (w ∷ ws) p ok h =
     rw (ahead_of w p (omega (arith, starts from w ws ok)))
-    (free-below (w.end + 1) ws p (rest from w ws ok) (omega (arith, starts from w ws ok, ordered from w ws ok)))
+    (free_below (w.end + 1) ws p (rest from w ws ok) (omega (arith, starts from w ws ok, ordered from w ws ok)))
 
 -- at the next place fewer ticks are left, and none where the window ends
-next_place : (from : ℕ) (ws : List Window) (p : ℕ) → ascending from ws ≡ true → 1 ≤ blockedFor ws p → blockedFor ws (p + 1) < blockedFor ws p
-unfolding blockedFor
+next_place : (from : ℕ) (ws : List Window) (p : ℕ) → ascending from ws ≡ true → 1 ≤ blocked_for ws p → blocked_for ws (p + 1) < blocked_for ws p
+unfolding blocked_for
 next_place from [] p ok h = h
-next_place from (w ∷ ws) p ok h = by-test (inWindow p w) (λ t. within t) (λ t. rw (t, past w (p + 1) (later t)) (next_place (w.end + 1) ws p (rest from w ws ok) (rw t at h)))
+next_place from (w ∷ ws) p ok h = by_test (in_window p w) (λ t. within t) (λ t. rw (t, past w (p + 1) (later t)) (next_place (w.end + 1) ws p (rest from w ws ok) (rw t at h)))
   where
     -- in w itself
-    within : inWindow p w ≡ true → (if inWindow (p + 1) w then w.end - (p + 1) else blockedFor ws (p + 1)) < (if inWindow p w then w.end - p else blockedFor ws p)
+    within : in_window p w ≡ true → (if in_window (p + 1) w then w.end - (p + 1) else blocked_for ws (p + 1)) < (if in_window p w then w.end - p else blocked_for ws p)
     within t =
         rw t
-        (if-case (λ n. n < w.end - p) (inWindow (p + 1) w) (λ u. omega (arith, (inside w p t).1))
-        (λ u. by-test (leb w.end (p + 1))
-        (λ l. omega (arith, (inside w p t).1, free-below (w.end + 1) ws (p + 1) (rest from w ws ok) (omega (arith, (inside w p t).1))))
+        (if_case (λ n. n < w.end - p) (in_window (p + 1) w) (λ u. omega (arith, (inside w p t).1))
+        (λ u. by_test (leb w.end (p + 1))
+        (λ l. omega (arith, (inside w p t).1, free_below (w.end + 1) ws (p + 1) (rest from w ws ok) (omega (arith, (inside w p t).1))))
         (λ l. clash (amid w (p + 1) (omega (arith, (inside w p t).0)) (omega (arith, leb-false w.end (p + 1) l))) u)))
 
     -- in a later window, so past the end of w
-    later : inWindow p w ≡ false → w.end ≤ p + 1
+    later : in_window p w ≡ false → w.end ≤ p + 1
     later t =
-        by-test (leb w.end (p + 1)) (λ l. leb-true w.end (p + 1) l)
-        (λ l. omega (arith, rw t at h, free-below (w.end + 1) ws p (rest from w ws ok) (omega (arith, leb-false w.end (p + 1) l))))
+        by_test (leb w.end (p + 1)) (λ l. leb-true w.end (p + 1) l)
+        (λ l. omega (arith, rw t at h, free_below (w.end + 1) ws p (rest from w ws ok) (omega (arith, leb-false w.end (p + 1) l))))
 
 -- ---- the week's end
 
 -- no window comes after it
-none-past : (from : ℕ) (ws : List Window) (end : ℕ) → ascending from ws ≡ true → weekTicks < from → last_end end ws ≡ end
+none_past : (from : ℕ) (ws : List Window) (end : ℕ) → ascending from ws ≡ true → week_ticks < from → last_end end ws ≡ end
 unfolding last_end
-none-past from [] end ok h = refl
-none-past from (w ∷ ws) end ok h = omega (arith, starts from w ws ok, ordered from w ws ok, ends from w ws ok)
+none_past from [] end ok h = refl
+none_past from (w ∷ ws) end ok h = omega (arith, starts from w ws ok, ordered from w ws ok, ends from w ws ok)
 
 -- blocked in the week's last tick: the last window ends the week
-last-blocked : (from : ℕ) (ws : List Window) (p end : ℕ) → weekTicks ≤ p + 1 → ascending from ws ≡ true → 1 ≤ blockedFor ws p → last_end end ws ≡ weekTicks
-unfolding blockedFor last_end
-last-blocked from [] p end e ok h = omega arith
-last-blocked from (w ∷ ws) p end e ok h =
-    by-test (inWindow p w)
-    (λ t. omega (arith, none-past (w.end + 1) ws w.end (rest from w ws ok) (omega (arith, (inside w p t).1)), (inside w p t).1, ends from w ws ok))
-    (λ t. last-blocked (w.end + 1) ws p w.end e (rest from w ws ok) (rw t at h))
+last_blocked : (from : ℕ) (ws : List Window) (p end : ℕ) → week_ticks ≤ p + 1 → ascending from ws ≡ true → 1 ≤ blocked_for ws p → last_end end ws ≡ week_ticks
+unfolding blocked_for last_end
+last_blocked from [] p end e ok h = omega arith
+last_blocked from (w ∷ ws) p end e ok h =
+    by_test (in_window p w)
+    (λ t. omega (arith, none_past (w.end + 1) ws w.end (rest from w ws ok) (omega (arith, (inside w p t).1)), (inside w p t).1, ends from w ws ok))
+    (λ t. last_blocked (w.end + 1) ws p w.end e (rest from w ws ok) (rw t at h))
 
 -- blocked in its first: the first window starts it
-first-blocked : (ws : List Window) → ascending 0 ws ≡ true → 1 ≤ blockedFor ws 0 → startsWeek ws ≡ true
-unfolding blockedFor startsWeek
-first-blocked [] ok h = absurd (not-suc-le-zero h)
-first-blocked (w ∷ ws) ok h =
-    by-test (inWindow 0 w) (λ t. eq-eqb w.start 0 (omega (arith, (inside w 0 t).0)))
-    (λ t. absurd (not-suc-le-zero (rw (t, free-below (w.end + 1) ws 0 (rest 0 w ws ok) (omega arith)) at h)))
+first_blocked : (ws : List Window) → ascending 0 ws ≡ true → 1 ≤ blocked_for ws 0 → starts_week ws ≡ true
+unfolding blocked_for starts_week
+first_blocked [] ok h = absurd (not-suc-le-zero h)
+first_blocked (w ∷ ws) ok h =
+    by_test (in_window 0 w) (λ t. eq-eqb w.start 0 (omega (arith, (inside w 0 t).0)))
+    (λ t. absurd (not-suc-le-zero (rw (t, free_below (w.end + 1) ws 0 (rest 0 w ws ok) (omega arith)) at h)))
 
 -- ---- together
 
 -- a blocked tick leaves fewer to come
-module _ (ws : List Window) (ok : windowsFit ws ≡ true) where
+module _ (ws : List Window) (ok : windows_fit ws ≡ true) where
   rising : ascending 0 ws ≡ true
-  unfolding windowsFit
+  unfolding windows_fit
   rising = and_left (ascending 0 ws) _ (and_right (leb (length ws) 8) _ ok)
 
-  apart : not (startsWeek ws && endsWeek ws) ≡ true
-  unfolding windowsFit
+  apart : not (starts_week ws && ends_week ws) ≡ true
+  unfolding windows_fit
   apart = and_right (ascending 0 ws) _ (and_right (leb (length ws) 8) _ ok)
 
-  pub blocked-less : (p : ℕ) → busy ws p ≡ true → blockedFor ws (advanced p) < blockedFor ws p
-  unfolding advanced endsWeek
-  blocked-less p b = if-case (λ n. blockedFor ws n < blockedFor ws p) (ltb (p + 1) weekTicks) (λ e. next_place 0 ws p rising some) wraps
+  pub blocked_less : (p : ℕ) → busy ws p ≡ true → blocked_for ws (advanced p) < blocked_for ws p
+  unfolding advanced ends_week
+  blocked_less p b = if_case (λ n. blocked_for ws n < blocked_for ws p) (ltb (p + 1) week_ticks) (λ e. next_place 0 ws p rising some) wraps
     where
-      some : 1 ≤ blockedFor ws p
-      some = busy-some ws p b
+      some : 1 ≤ blocked_for ws p
+      some = busy_some ws p b
 
       -- not both the last tick and the first are blocked
-      wraps : ltb (p + 1) weekTicks ≡ false → blockedFor ws 0 < blockedFor ws p
+      wraps : ltb (p + 1) week_ticks ≡ false → blocked_for ws 0 < blocked_for ws p
       wraps e =
-          by-test (leb 1 (blockedFor ws 0))
+          by_test (leb 1 (blocked_for ws 0))
           (λ t. clash apart
-          (rw (first-blocked ws rising (leb-true 1 (blockedFor ws 0) t), last-blocked 0 ws p 0 (ltb-false (p + 1) weekTicks e) rising some) refl))
-          (λ t. omega (arith, some, leb-false 1 (blockedFor ws 0) t))
+          (rw (first_blocked ws rising (leb-true 1 (blocked_for ws 0) t), last_blocked 0 ws p 0 (ltb-false (p + 1) week_ticks e) rising some) refl))
+          (λ t. omega (arith, some, leb-false 1 (blocked_for ws 0) t))
 
   -- so many in a row are blocked at most
-  run-left : (k p : ℕ) → ((j : ℕ) → j < k → busy ws (placeAfter j p) ≡ true) → k ≤ blockedFor ws p
-  unfolding placeAfter
-  run-left zero p all = omega arith
-  run-left (suc k) p all = omega (arith, blocked-less p (all 0 (omega arith)), run-left k (advanced p) (λ j h. all (suc j) (omega arith)))
+  run_left : (k p : ℕ) → ((j : ℕ) → j < k → busy ws (place_after j p) ≡ true) → k ≤ blocked_for ws p
+  unfolding place_after
+  run_left zero p all = omega arith
+  run_left (suc k) p all = omega (arith, blocked_less p (all 0 (omega arith)), run_left k (advanced p) (λ j h. all (suc j) (omega arith)))
 
 -- NO LONGER THAN THE LONGEST WINDOW
-pub blocked-run : BlockedRun
-blocked-run ws p k ok all = omega (arith, run-left ws ok k p all, blocked-longest ws p)
+pub blocked_run : BlockedRun
+blocked_run ws p k ok all = omega (arith, run_left ws ok k p all, blocked_longest ws p)

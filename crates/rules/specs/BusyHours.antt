@@ -1,9 +1,9 @@
 -- Request #107 of document 02: what the busy hours change in the selection, and what they never change, as statements. `BusyHours` has them all.
 use Rattle.std.specs.Prelude.{ℕ, zero, suc, ◌≤◌, ◌<◌, ◌≡◌, ◌⊎◌, Bool, true, false, List}
 use Rattle.rules.specs.Settings.{Settings, automatic, revertive, reversion}
-use Rattle.rules.specs.Week.{Window, busy, advanced, longest, windowsFit}
+use Rattle.rules.specs.Week.{Window, busy, advanced, longest, windows_fit}
 use Rattle.rules.specs.Inputs.{Inputs}
-use Rattle.rules.specs.Selection.{Choice, candidate, best, settled, waitLimit, waitAfter, reverted, chosen}
+use Rattle.rules.specs.Selection.{Choice, candidate, best, settled, wait_limit, wait_after, reverted, chosen}
 
 -- ---- a window blocks the switch of a reversion, and nothing else
 
@@ -36,28 +36,28 @@ OnlyReversions = (set : Settings) (inputs : Inputs) (c : Choice) → (chosen tru
 
 pub record WaitInWindow : Type 0 where
   -- "rises only if it is below n + 1": as outside while it is, and then it rests
-  pub rises : (n b : ℕ) (c : Choice) → c.wait ≤ n → waitAfter true n b c ≡ waitAfter false n b c
-  pub rests : (n b : ℕ) (c : Choice) → n < c.wait → c.wait ≤ waitLimit → c.awaited ≡ b → waitAfter true n b c ≡ c.wait
+  pub rises : (n b : ℕ) (c : Choice) → c.wait ≤ n → wait_after true n b c ≡ wait_after false n b c
+  pub rests : (n b : ℕ) (c : Choice) → n < c.wait → c.wait ≤ wait_limit → c.awaited ≡ b → wait_after true n b c ≡ c.wait
   -- a wait that is over switches in the first tick outside
-  pub ends : (n b : ℕ) (c : Choice) → n < c.wait → c.wait < waitLimit → c.awaited ≡ b → reverted false n b c ≡ settled b
+  pub ends : (n b : ℕ) (c : Choice) → n < c.wait → c.wait < wait_limit → c.awaited ≡ b → reverted false n b c ≡ settled b
 
 -- ---- a run of blocked ticks
 
 -- the place k ticks later
-unfoldable pub placeAfter : ℕ → ℕ → ℕ
-placeAfter zero place = place
-placeAfter (suc k) place = placeAfter k (advanced place)
+unfoldable pub place_after : ℕ → ℕ → ℕ
+place_after zero place = place
+place_after (suc k) place = place_after k (advanced place)
 
 -- k ticks in a row that are blocked, from any place on, are no more than the longest window has, over the week's end too
 abbrev pub BlockedRun : Type 0
 BlockedRun =
-    (windows : List Window) (place k : ℕ) → windowsFit windows ≡ true → ((j : ℕ) → j < k → busy windows (placeAfter j place) ≡ true) → k ≤ longest windows
+    (windows : List Window) (place k : ℕ) → windows_fit windows ≡ true → ((j : ℕ) → j < k → busy windows (place_after j place) ≡ true) → k ≤ longest windows
 
 -- ---- together
 
 pub record BusyHours : Type 0 where
-  pub noReversion : NoReversion
-  pub lostReference : LostReference
-  pub onlyReversions : OnlyReversions
-  pub waitInWindow : WaitInWindow
-  pub blockedRun : BlockedRun
+  pub no_reversion : NoReversion
+  pub lost_reference : LostReference
+  pub only_reversions : OnlyReversions
+  pub wait_in_window : WaitInWindow
+  pub blocked_run : BlockedRun

@@ -6,11 +6,11 @@ use Rattle.rules.specs.State.{State, Ready}
 use Rattle.rules.specs.Refusals.{accepted}
 use Rattle.rules.specs.Run.{run}
 use Rattle.rules.specs.Loading.{Fresh}
-use Rattle.rules.specs.OldHistory.{oldRun}
+use Rattle.rules.specs.OldHistory.{old_run}
 
 -- "Over the same list from fresh, Ready stands after each event after which it stood under the old rules"
 abbrev pub NeverLessReady : Type 0
-NeverLessReady = (start : State) → Fresh start → (es : List Event) → Ready (oldRun start es) ≡ true → Ready (run start es) ≡ true
+NeverLessReady = (start : State) → Fresh start → (es : List Event) → Ready (old_run start es) ≡ true → Ready (run start es) ≡ true
 
 -- "and once standing it ends only by command 3": an event after which it no longer stands is a write of 3 to 0x26, accepted
 abbrev pub EndsByCommand3 : Type 0

@@ -18,39 +18,39 @@ pub data Event : Type 0 where
   -- "Write (address, value byte)"
   write : ℕ → ℕ → Event
   -- #104, "Setting .. a set": its number, size S, set level U, clear level L, and d, its decay being 2^d ticks
-  setBucket : ℕ → ℕ → ℕ → ℕ → ℕ → Event
+  set_bucket : ℕ → ℕ → ℕ → ℕ → ℕ → Event
   -- #104, ".. or assigning a set": the input, and the set's number
-  assignBucket : ℕ → ℕ → Event
+  assign_bucket : ℕ → ℕ → Event
   -- #107, "a call sets the place in the week"
-  setWeek : ℕ → Event
+  set_week : ℕ → Event
   -- #107, "setting .. the windows": all of them
-  setWindows : List Window → Event
+  set_windows : List Window → Event
 
 -- a tick, by its mask, its lock flag and its sample
-abbrev pub tickWith : ℕ → Bool → ℤ → Event
-tickWith mask lock sample = tick (record { mask = mask; lock = lock; sample = sample })
+abbrev pub tick_with : ℕ → Bool → ℤ → Event
+tick_with mask lock sample = tick (record { mask = mask; lock = lock; sample = sample })
 
 -- #106: "The new counter resolves 1/64 ppm." 0.5 ppm, in which the limits and the offsets of the old kind are, is so many of its steps.
-abbrev pub halfPpm : ℕ
-halfPpm = 32
+abbrev pub half_ppm : ℕ
+half_ppm = 32
 
 -- A measurement of the old kind, "signed byte in 0.5 ppm". #106: it "means 32 times its byte"
-abbrev pub oldKind : ℕ → ℤ → Event
-oldKind i offset = measurement i (pos halfPpm *ℤ offset)
+abbrev pub old_kind : ℕ → ℤ → Event
+old_kind i offset = measurement i (pos half_ppm *ℤ offset)
 
 -- "sample .. −125,000,000 to 125,000,000"
-abbrev pub sampleLimit : ℕ
-sampleLimit = 125_000_000
+abbrev pub sample_limit : ℕ
+sample_limit = 125_000_000
 
-abbrev pub isTick : Event → Bool
-isTick (tick t) = true
-isTick (measurement i offset) = false
-isTick hit = false
-isTick (write a v) = false
-isTick (setBucket n size setLevel clearLevel d) = false
-isTick (assignBucket i n) = false
-isTick (setWeek place) = false
-isTick (setWindows windows) = false
+abbrev pub is_tick : Event → Bool
+is_tick (tick t) = true
+is_tick (measurement i offset) = false
+is_tick hit = false
+is_tick (write a v) = false
+is_tick (set_bucket n size set_level clear_level d) = false
+is_tick (assign_bucket i n) = false
+is_tick (set_week place) = false
+is_tick (set_windows windows) = false
 
 -- a call of the host's, which no run sheet can hold
 abbrev pub is_call : Event → Bool
@@ -58,7 +58,7 @@ is_call (tick t) = false
 is_call (measurement i offset) = false
 is_call hit = false
 is_call (write a v) = false
-is_call (setBucket n size setLevel clearLevel d) = true
-is_call (assignBucket i n) = true
-is_call (setWeek place) = true
-is_call (setWindows windows) = true
+is_call (set_bucket n size set_level clear_level d) = true
+is_call (assign_bucket i n) = true
+is_call (set_week place) = true
+is_call (set_windows windows) = true

@@ -7,9 +7,9 @@ use Rattle.rules.specs.Words.{if◌then◌else◌}
 -- the numbers of a bucket. #104: "size S, set level U, clear level L, decay of 2^d ticks"; document 01 has 8, 6, 4 and 2 ticks
 pub record Bucket : Type 0 where
   pub size : ℕ
-  pub setLevel : ℕ
-  pub clearLevel : ℕ
-  pub decayTicks : ℕ
+  pub set_level : ℕ
+  pub clear_level : ℕ
+  pub decay_ticks : ℕ
 
 pub record Activity : Type 0 where
   -- the bucket's level, and its decay count
@@ -19,26 +19,26 @@ pub record Activity : Type 0 where
   pub alarm : Bool
 
 -- "an irregular tick adds 1 up to 8 and zeroes the decay count. Otherwise the decay count rises; at 2 it is zeroed and the level falls by 1, not below 0"
-unfoldable pub levelAfter : ℕ → ℕ → Bool → ℕ → ℕ → ℕ
-levelAfter size decayTicks irregular level decay =
+unfoldable pub level_after : ℕ → ℕ → Bool → ℕ → ℕ → ℕ
+level_after size decay_ticks irregular level decay =
     if irregular then min size (level + 1)
-    else (if leb decayTicks (decay + 1) then level - 1
+    else (if leb decay_ticks (decay + 1) then level - 1
     else level)
 
-unfoldable pub decayAfter : ℕ → Bool → ℕ → ℕ
-decayAfter decayTicks irregular decay = if irregular then 0 else (if leb decayTicks (decay + 1) then 0 else decay + 1)
+unfoldable pub decay_after : ℕ → Bool → ℕ → ℕ
+decay_after decay_ticks irregular decay = if irregular then 0 else (if leb decay_ticks (decay + 1) then 0 else decay + 1)
 
 -- "Activity alarm: set at level 6 or more, cleared at 4 or less, kept at 5"
-unfoldable pub alarmAfter : ℕ → ℕ → ℕ → Bool → Bool
-alarmAfter setLevel clearLevel level alarm = if leb setLevel level then true else (if leb level clearLevel then false else alarm)
+unfoldable pub alarm_after : ℕ → ℕ → ℕ → Bool → Bool
+alarm_after set_level clear_level level alarm = if leb set_level level then true else (if leb level clear_level then false else alarm)
 
-unfoldable pub activityAfter : Bucket → Bool → Activity → Activity
-activityAfter b irregular x =
-    let level = levelAfter b.size b.decayTicks irregular x.level x.decay in
+unfoldable pub activity_after : Bucket → Bool → Activity → Activity
+activity_after b irregular x =
+    let level = level_after b.size b.decay_ticks irregular x.level x.decay in
     record {
       level = level;
-      decay = decayAfter b.decayTicks irregular x.decay;
-      alarm = alarmAfter b.setLevel b.clearLevel level x.alarm;
+      decay = decay_after b.decay_ticks irregular x.decay;
+      alarm = alarm_after b.set_level b.clear_level level x.alarm;
     }
 
 -- ---- 2. lock alarm, good, soak
@@ -56,51 +56,51 @@ unfoldable pub good : Bool → Bool → ℕ → Bool
 good activity frequency remainder = not activity && not frequency && eqb remainder 0
 
 -- the soak of a qualified input (10 s)
-abbrev pub fullSoak : ℕ
-fullSoak = 79
+abbrev pub full_soak : ℕ
+full_soak = 79
 
 -- "Good adds 1 to its soak up to 79 (10 s), else soak is 0"
-unfoldable pub soakAfter : Bool → ℕ → ℕ
-soakAfter isGood soak = if isGood then min fullSoak (soak + 1) else 0
+unfoldable pub soak_after : Bool → ℕ → ℕ
+soak_after is_good soak = if is_good then min full_soak (soak + 1) else 0
 
 -- Steps 1 and 2. "A standing lock alarm's remainder falls by 1."
 unfoldable pub monitored : Bucket → Bool → Input → Input
 monitored b irregular i =
-    let activity = activityAfter b irregular i.activity in
+    let activity = activity_after b irregular i.activity in
     record {
       activity = activity;
       frequency = i.frequency;
       remainder = i.remainder - 1;
-      soak = soakAfter (good activity.alarm i.frequency (i.remainder - 1)) i.soak;
+      soak = soak_after (good activity.alarm i.frequency (i.remainder - 1)) i.soak;
     }
 
 -- "Qualified means soak 79"
 unfoldable pub qualified : Input → Bool
-qualified i = eqb i.soak fullSoak
+qualified i = eqb i.soak full_soak
 
 -- the input with its soak at 0 (a Hit, and a lock alarm)
 unfoldable pub unsoaked : Input → Input
 unsoaked i = record { activity = i.activity; frequency = i.frequency; remainder = i.remainder; soak = 0 }
 
 -- #104: "at level S, alarm set, decay count 0"; the soak is unchanged
-unfoldable pub atSize : ℕ → Input → Input
-atSize size i =
+unfoldable pub at_size : ℕ → Input → Input
+at_size size i =
     record { activity = record { level = size; decay = 0; alarm = true }; frequency = i.frequency; remainder = i.remainder; soak = i.soak }
 
 -- the lock alarm's length (100 s)
-abbrev pub alarmTicks : ℕ
-alarmTicks = 782
+abbrev pub alarm_ticks : ℕ
+alarm_ticks = 782
 
 -- "sets that input's lock alarm remainder to 782 and its soak to 0"
-unfoldable pub lockAlarmed : Input → Input
-lockAlarmed i = record { activity = i.activity; frequency = i.frequency; remainder = alarmTicks; soak = 0 }
+unfoldable pub lock_alarmed : Input → Input
+lock_alarmed i = record { activity = i.activity; frequency = i.frequency; remainder = alarm_ticks; soak = 0 }
 
 -- ---- a measurement
 
 -- "A measurement's magnitude above the reject limit sets the frequency alarm; at or below the qualification limit clears it; between, it is kept."
 -- Magnitude and limits are in one unit.
-unfoldable pub frequencyAfter : ℕ → ℕ → ℕ → Bool → Bool
-frequencyAfter reject qualification magnitude alarm =
+unfoldable pub frequency_after : ℕ → ℕ → ℕ → Bool → Bool
+frequency_after reject qualification magnitude alarm =
     if ltb reject magnitude then true
     else (if leb magnitude qualification then false
     else alarm)
@@ -110,11 +110,11 @@ unfoldable pub measured : ℕ → ℕ → ℤ → Input → Input
 measured reject qualification offset i =
     record {
       activity = i.activity;
-      frequency = frequencyAfter reject qualification (nat_abs offset) i.frequency;
+      frequency = frequency_after reject qualification (nat_abs offset) i.frequency;
       remainder = i.remainder;
       soak = i.soak;
     }
 
 -- "Fresh: all counts 0, activity alarms clear, frequency alarms set"
-unfoldable pub freshInput : Input
-freshInput = record { activity = record { level = 0; decay = 0; alarm = false }; frequency = true; remainder = 0; soak = 0 }
+unfoldable pub fresh_input : Input
+fresh_input = record { activity = record { level = 0; decay = 0; alarm = false }; frequency = true; remainder = 0; soak = 0 }

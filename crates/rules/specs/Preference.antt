@@ -28,4 +28,4 @@ AheadOfFreeRun set r = priority set r ≤ priority set 9
 pub record Preferred (r : ℕ) (set : Settings) : Type 0 where
   pub unmasked : Unmasked set r
   pub inputs : (i : ℕ) → 1 ≤ i → i ≤ 8 → (i ≡ r → ⊥) → Unmasked set i → AheadOfInput set r i × Revertive set i
-  pub freeRun : FreeRunEnabled set → AheadOfFreeRun set r × Revertive set 9
+  pub free_run : FreeRunEnabled set → AheadOfFreeRun set r × Revertive set 9

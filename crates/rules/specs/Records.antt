@@ -6,24 +6,24 @@ use Rattle.rules.specs.Settings.{reversion}
 use Rattle.rules.specs.State.{State}
 use Rattle.rules.specs.Registers.{fresh}
 use Rattle.rules.specs.Run.{run}
-use Rattle.rules.specs.Sheet.{sheetEvents, check, front}
-use Rattle.rules.specs.Service.{Provisos, acceptedTicks}
+use Rattle.rules.specs.Sheet.{sheet_events, check, front}
+use Rattle.rules.specs.Service.{Provisos, accepted_ticks}
 
 -- "Each gives a 4-byte record: refusal or 0, then 0x48, 0x46, 0x49." Byte k of record i.
 abbrev pub byte_of : List ℕ → ℕ → ℕ → ℕ
 byte_of records i k = get_or records (4 * i + k) 0
 
 -- 0x48's selected, and 0x49's Ready bit
-abbrev pub shownSelected : List ℕ → ℕ → ℕ
-shownSelected records i = byte_of records i 1 % 16
+abbrev pub shown_selected : List ℕ → ℕ → ℕ
+shown_selected records i = byte_of records i 1 % 16
 
-abbrev pub shownReady : List ℕ → ℕ → Bool
-shownReady records i = bit (byte_of records i 3) 2
+abbrev pub shown_ready : List ℕ → ℕ → Bool
+shown_ready records i = bit (byte_of records i 3) 2
 
 -- what is promised of record i, where s is the rules' state at the moment and `since` are the events since then, up to and with that of the record
 pub record RecordServed (r : ℕ) (s : State) (since : List Event) (records : List ℕ) (i : ℕ) : Type 0 where
-  pub selected-is : 860 + reversion s.settings ≤ acceptedTicks s since → shownSelected records i ≡ r
-  pub ready-is : 6_379 + reversion s.settings ≤ acceptedTicks s since → shownReady records i ≡ true
+  pub selected_is : 860 + reversion s.settings ≤ accepted_ticks s since → shown_selected records i ≡ r
+  pub ready_is : 6_379 + reversion s.settings ≤ accepted_ticks s since → shown_ready records i ≡ true
 
 -- THE PROMISE IN THE RECORDS. Take every sheet that runs; its settings and events are `before`, `after`, an event e and the rest, with the moment after
 -- `before`. For every reference r for which the provisos hold from the moment up to and with e: if 860 + n of the events since the moment, e itself included,
@@ -33,6 +33,6 @@ abbrev pub RecordsPromise : Type 0
 RecordsPromise =
     (sheet : List ℕ) (room : ℕ) (before after : List Event) (e : Event) (rest : List Event) (r : ℕ)
     → check sheet room ≡ 0
-    → sheetEvents sheet ≡ (before ++ after) ++ (e ∷ rest)
+    → sheet_events sheet ≡ (before ++ after) ++ (e ∷ rest)
     → Provisos r (run fresh before) (after ++ (e ∷ []))
     → RecordServed r (run fresh before) (after ++ (e ∷ [])) (front sheet room) (length (before ++ after))

@@ -1,13 +1,13 @@
 -- Document 01, "Registers": the map, and a fresh unit.
 use Rattle.std.specs.Prelude.{ℕ, ◌-◌, ◌%◌, Bool, true, false, List, [], ◌∷◌, map, ltb, leb, eqb, get_or, replicate}
 use Rattle.rules.specs.Words.{if◌then◌else◌, between}
-use Rattle.rules.specs.Monitors.{freshInput}
-use Rattle.rules.specs.Pll.{freeRun}
+use Rattle.rules.specs.Monitors.{fresh_input}
+use Rattle.rules.specs.Pll.{free_run}
 use Rattle.rules.specs.Settings.{Settings}
-use Rattle.rules.specs.Week.{freshWeek}
+use Rattle.rules.specs.Week.{fresh_week}
 use Rattle.rules.specs.Selection.{settled}
-use Rattle.rules.specs.Buckets.{freshBuckets}
-use Rattle.rules.specs.History.{freshHistory}
+use Rattle.rules.specs.Buckets.{fresh_buckets}
+use Rattle.rules.specs.History.{fresh_history}
 use Rattle.rules.specs.State.{State}
 
 -- ---- the map
@@ -64,15 +64,15 @@ registers =
     ∷ []
 
 -- how many registers the map has
-abbrev pub mapSize : ℕ
-mapSize = 27
+abbrev pub map_size : ℕ
+map_size = 27
 
--- the slot of an address in the map, from 0; `mapSize` for an address that is not in it
+-- the slot of an address in the map, from 0; `map_size` for an address that is not in it
 unfoldable pub slot : ℕ → ℕ
-slot a = if between 0x1c 0x27 a then a - 0x1c else (if between 0x40 0x4e a then a - 0x34 else mapSize)
+slot a = if between 0x1c 0x27 a then a - 0x1c else (if between 0x40 0x4e a then a - 0x34 else map_size)
 
-unfoldable pub inMap : ℕ → Bool
-inMap a = ltb (slot a) mapSize
+unfoldable pub in_map : ℕ → Bool
+in_map a = ltb (slot a) map_size
 
 unfoldable pub register : ℕ → Register
 register a = get_or registers (slot a) (reads a)
@@ -94,27 +94,27 @@ written a v set b = if eqb b a then stored a v else set b
 -- ---- a fresh unit
 
 -- a value for each register, in address order, as settings by address
-unfoldable pub settingsFrom : List ℕ → Settings
-settingsFrom table a = get_or table (slot a) 0
+unfoldable pub settings_from : List ℕ → Settings
+settings_from table a = get_or table (slot a) 0
 
 -- with these settings: "Fresh: all counts 0, activity alarms clear, frequency alarms set, selected 0, Free Run."
-unfoldable pub freshWith : Settings → State
-freshWith set =
+unfoldable pub fresh_with : Settings → State
+fresh_with set =
     record {
-      inputs = replicate 8 freshInput;
-      buckets = freshBuckets;
+      inputs = replicate 8 fresh_input;
+      buckets = fresh_buckets;
       settings = set;
-      loop = record { mode = freeRun; lockRun = 0; unlockRun = 0 };
+      loop = record { mode = free_run; lock_run = 0; unlock_run = 0 };
       choice = settled 0;
-      history = freshHistory;
+      history = fresh_history;
       holding = 0;
-      week = freshWeek;
+      week = fresh_week;
     }
 
 -- the column Fresh
-unfoldable pub freshTable : List ℕ
-freshTable = map (λ (r : Register). r.fresh) registers
+unfoldable pub fresh_table : List ℕ
+fresh_table = map (λ (r : Register). r.fresh) registers
 
 -- the standard fresh unit; those of a buyer's own stand in Loading
 unfoldable pub fresh : State
-fresh = freshWith (settingsFrom freshTable)
+fresh = fresh_with (settings_from fresh_table)

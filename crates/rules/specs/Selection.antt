@@ -1,17 +1,17 @@
 -- Document 01, "Selection (step 4)", with the busy hours of request #107 of document 02: which candidate is selected, the wait, and the state after the
 -- choice.
 use Rattle.std.specs.Prelude.{ℕ, zero, suc, ◌+◌, ◌-◌, min, Bool, not, ◌&&◌, ◌||◌, leb, eqb}
-use Rattle.rules.specs.Words.{if◌then◌else◌, isInput}
+use Rattle.rules.specs.Words.{if◌then◌else◌, is_input}
 use Rattle.rules.specs.Monitors.{qualified}
 use Rattle.rules.specs.Inputs.{Inputs, input}
-use Rattle.rules.specs.Pll.{Mode, freeRun, holdover, preLocked, preLocked2, is, Loop}
-use Rattle.rules.specs.Settings.{Settings, automatic, opMode, usable, revertive, ahead, reversion}
+use Rattle.rules.specs.Pll.{Mode, free_run, holdover, pre_locked, pre_locked2, is, Loop}
+use Rattle.rules.specs.Settings.{Settings, automatic, op_mode, usable, revertive, ahead, reversion}
 
 -- ---- available
 
 -- "available means qualified and unmasked"
 unfoldable pub available : Settings → Inputs → ℕ → Bool
-available set inputs i = isInput i && usable set i && qualified (input inputs i)
+available set inputs i = is_input i && usable set i && qualified (input inputs i)
 
 -- ---- automatic
 
@@ -27,30 +27,30 @@ unfoldable pub candidate : Settings → Inputs → ℕ → Bool
 candidate set inputs c = if eqb c 9 then usable set c else available set inputs c
 
 -- the best candidate among 1 to k, or 0: candidate k takes the place of the best below it if there is none or k is ahead of it
-unfoldable pub bestUpTo : Settings → Inputs → ℕ → ℕ
-bestUpTo set inputs zero = 0
-bestUpTo set inputs (suc k) =
-    let b = bestUpTo set inputs k in
+unfoldable pub best_up_to : Settings → Inputs → ℕ → ℕ
+best_up_to set inputs zero = 0
+best_up_to set inputs (suc k) =
+    let b = best_up_to set inputs k in
     if candidate set inputs (suc k) && (eqb b 0 || ahead set (suc k) b) then suc k else b
 
 -- the candidate that is ahead of every other (`BestCandidate` in Laws)
 unfoldable pub best : Settings → Inputs → ℕ
-best set inputs = bestUpTo set inputs 9
+best set inputs = best_up_to set inputs 9
 
 -- selected, with the wait at 0: "Any change of selection zeroes the wait."
 unfoldable pub settled : ℕ → Choice
 settled c = record { selected = c; wait = 0; awaited = 0 }
 
 -- two ticks more than the longest delay, 255 minutes: the wait stops here, and from fresh it never comes so far (`Saturation` in Laws)
-abbrev pub waitLimit : ℕ
-waitLimit = 119_534
+abbrev pub wait_limit : ℕ
+wait_limit = 119_534
 
 -- "the wait rises by 1, or is 1 if it was 0 or counted for another best". So it is never carried over to another best. `blocked` says that the tick lies in a
 -- window. #107: "meanwhile the wait rises only if it is below n + 1"
-unfoldable pub waitAfter : Bool → ℕ → ℕ → Choice → ℕ
-waitAfter blocked n b c =
+unfoldable pub wait_after : Bool → ℕ → ℕ → Choice → ℕ
+wait_after blocked n b c =
     if eqb c.wait 0 || not (eqb c.awaited b) then 1
-    else min waitLimit (if blocked && leb (n + 1) c.wait then c.wait else c.wait + 1)
+    else min wait_limit (if blocked && leb (n + 1) c.wait then c.wait else c.wait + 1)
 
 -- "the switch comes when wait − 1 is n or more"
 unfoldable pub switches : ℕ → ℕ → Bool
@@ -59,8 +59,8 @@ switches n wait = leb n (wait - 1)
 -- the reversion from the selected candidate to the best. #107: windows "block the switch of a reversion"
 unfoldable pub reverted : Bool → ℕ → ℕ → Choice → Choice
 reverted blocked n b c =
-    if not blocked && switches n (waitAfter blocked n b c) then settled b
-    else record { selected = c.selected; wait = waitAfter blocked n b c; awaited = b }
+    if not blocked && switches n (wait_after blocked n b c) then settled b
+    else record { selected = c.selected; wait = wait_after blocked n b c; awaited = b }
 
 -- "If the selected one is no candidate, the best is taken, or 0. If it is best, it stays and the wait is 0. If it is not best and non-revertive, it stays
 -- and the wait is 0. If revertive, the wait rises ..". The bit that counts is the selected one's, not the best's; a best of equal priority is waited for too.
@@ -76,7 +76,7 @@ reselected blocked set inputs b c =
 
 -- "Op_Mode s in 1 to 8 selects s if qualified, masked or not, else 0; 0 and 9 select 0. Any manual tick zeroes the wait."
 unfoldable pub manual : Settings → Inputs → Choice
-manual set inputs = settled (if isInput (opMode set) && qualified (input inputs (opMode set)) then opMode set else 0)
+manual set inputs = settled (if is_input (op_mode set) && qualified (input inputs (op_mode set)) then op_mode set else 0)
 
 unfoldable pub chosen : Bool → Settings → Inputs → Choice → Choice
 chosen blocked set inputs c = if automatic set then reselected blocked set inputs (best set inputs) c else manual set inputs
@@ -84,28 +84,28 @@ chosen blocked set inputs c = if automatic set then reselected blocked set input
 -- ---- the state
 
 -- with nothing selected: "Holdover if Ready, otherwise Free Run"
-unfoldable pub unselectedMode : Bool → Mode
-unselectedMode ready = if ready then holdover else freeRun
+unfoldable pub unselected_mode : Bool → Mode
+unselected_mode ready = if ready then holdover else free_run
 
 -- both runs 0, and the state by Ready: a Hit leaves the loop so
-unfoldable pub unselectedLoop : Bool → Loop
-unselectedLoop ready = record { mode = unselectedMode ready; lockRun = 0; unlockRun = 0 }
+unfoldable pub unselected_loop : Bool → Loop
+unselected_loop ready = record { mode = unselected_mode ready; lock_run = 0; unlock_run = 0 }
 
 -- The state where `before` was selected and `next` now is; `control` says automatic, and `op` is Op_Mode. "Op_Mode 0 in manual, or selected 9, is Free Run.
 -- Else selected 0 is Holdover if Ready, otherwise Free Run. A newly selected reference starts Pre-locked if the state was Free Run, else Pre-locked 2."
-unfoldable pub modeAfter : Bool → ℕ → Bool → ℕ → ℕ → Mode → Mode
-modeAfter control op ready before next mode =
-    if (not control && eqb op 0) || eqb next 9 then freeRun
-    else (if eqb next 0 then unselectedMode ready
+unfoldable pub mode_after : Bool → ℕ → Bool → ℕ → ℕ → Mode → Mode
+mode_after control op ready before next mode =
+    if (not control && eqb op 0) || eqb next 9 then free_run
+    else (if eqb next 0 then unselected_mode ready
     else (if eqb next before then mode
-    else (if is freeRun mode then preLocked
-    else preLocked2)))
+    else (if is free_run mode then pre_locked
+    else pre_locked2)))
 
 -- "Both runs restart at 0 when the selection changes."
 unfoldable pub steered : Bool → ℕ → Bool → ℕ → ℕ → Loop → Loop
 steered control op ready before next p =
     record {
-      mode = modeAfter control op ready before next p.mode;
-      lockRun = if eqb next before then p.lockRun else 0;
-      unlockRun = if eqb next before then p.unlockRun else 0;
+      mode = mode_after control op ready before next p.mode;
+      lock_run = if eqb next before then p.lock_run else 0;
+      unlock_run = if eqb next before then p.unlock_run else 0;
     }

@@ -1,14 +1,14 @@
 -- Document 01, "Demand 3", as requests #104 to #107 of document 02 have it: the promise of service, one claim about whole histories from a fresh unit.
 use Rattle.std.specs.Prelude.{ℕ, ◌+◌, ◌*◌, ◌-◌, ◌^◌, ◌≤◌, max, ◌≡◌, true, false, ◌&&◌, List, [], ◌∷◌, ◌++◌, nat_abs}
 use Rattle.rules.specs.Words.{if◌then◌else◌, bit_of}
-use Rattle.rules.specs.Events.{Event, tick, measurement, hit, write, setBucket, assignBucket, setWeek, setWindows, halfPpm, isTick}
-use Rattle.rules.specs.Monitors.{Bucket, fullSoak, alarmTicks}
-use Rattle.rules.specs.Pll.{lockTicks}
+use Rattle.rules.specs.Events.{Event, tick, measurement, hit, write, set_bucket, assign_bucket, set_week, set_windows, half_ppm, is_tick}
+use Rattle.rules.specs.Monitors.{Bucket, full_soak, alarm_ticks}
+use Rattle.rules.specs.Pll.{lock_ticks}
 use Rattle.rules.specs.Settings.{qualification, delay, reversion}
 use Rattle.rules.specs.Week.{longest}
 use Rattle.rules.specs.Inputs.{input}
-use Rattle.rules.specs.Buckets.{bucketFrom, startBucket, bucketOf}
-use Rattle.rules.specs.History.{blockSamples, readyBlocks}
+use Rattle.rules.specs.Buckets.{bucket_from, start_bucket, bucket_of}
+use Rattle.rules.specs.History.{block_samples, ready_blocks}
 use Rattle.rules.specs.State.{State, selected, Ready}
 use Rattle.rules.specs.Refusals.{accepted}
 use Rattle.rules.specs.Run.{next, run}
@@ -29,13 +29,13 @@ TurnedDown s e = accepted s e ≡ false
 -- selected, in the lock flags; Hits may come then."
 abbrev pub Fair : ℕ → State → Event → Type 0
 Fair r s (tick t) = accepted s (tick t) ≡ true → (bit_of t.mask r ≡ false) × (selected s ≡ r → t.lock ≡ true)
-Fair r s (measurement i offset) = i ≡ r → nat_abs offset ≤ halfPpm * qualification s.settings
+Fair r s (measurement i offset) = i ≡ r → nat_abs offset ≤ half_ppm * qualification s.settings
 Fair r s hit = selected s ≡ r → ⊥
 Fair r s (write a v) = TurnedDown s (write a v)
-Fair r s (setBucket n size setLevel clearLevel d) = TurnedDown s (setBucket n size setLevel clearLevel d)
-Fair r s (assignBucket i n) = TurnedDown s (assignBucket i n)
-Fair r s (setWeek place) = TurnedDown s (setWeek place)
-Fair r s (setWindows windows) = TurnedDown s (setWindows windows)
+Fair r s (set_bucket n size set_level clear_level d) = TurnedDown s (set_bucket n size set_level clear_level d)
+Fair r s (assign_bucket i n) = TurnedDown s (assign_bucket i n)
+Fair r s (set_week place) = TurnedDown s (set_week place)
+Fair r s (set_windows windows) = TurnedDown s (set_windows windows)
 
 -- each event of the list, on "the state that the one before it left"
 abbrev pub AllFair : ℕ → State → List Event → Type 0
@@ -56,73 +56,73 @@ pub record Provisos (r : ℕ) (s : State) (events : List Event) : Type 0 where
 
 -- until the lock alarm's remainder is 0 and the level of a clock that behaves has fallen to the clear level, whichever is later. #104: "the larger of 782
 -- and (S − L) times 2^d"
-abbrev pub settleTicks : Bucket → ℕ
-settleTicks b = max alarmTicks ((b.size - b.clearLevel) * b.decayTicks)
+abbrev pub settle_ticks : Bucket → ℕ
+settle_ticks b = max alarm_ticks ((b.size - b.clear_level) * b.decay_ticks)
 
 -- until it is qualified: its soak fills from there on
-abbrev pub qualifyTicks : Bucket → ℕ
-qualifyTicks b = fullSoak - 1 + settleTicks b
+abbrev pub qualify_ticks : Bucket → ℕ
+qualify_ticks b = full_soak - 1 + settle_ticks b
 
 -- from its selection until Ready (5,519): its lock run, and 43 blocks of samples
-abbrev pub fillTicks : ℕ
-fillTicks = lockTicks - 1 + readyBlocks * blockSamples
+abbrev pub fill_ticks : ℕ
+fill_ticks = lock_ticks - 1 + ready_blocks * block_samples
 
 -- until r is selected, with r's set at the moment, n being the reversion delay in ticks. #107: "The longest window is added to both tick counts"
-abbrev pub selectedTicks : ℕ → State → ℕ
-selectedTicks r s = qualifyTicks (bucketOf s.buckets r) + reversion s.settings + longest s.week.windows
+abbrev pub selected_ticks : ℕ → State → ℕ
+selected_ticks r s = qualify_ticks (bucket_of s.buckets r) + reversion s.settings + longest s.week.windows
 
 -- until Ready stands too
-abbrev pub readyTicks : ℕ → State → ℕ
-readyTicks r s = selectedTicks r s + fillTicks
+abbrev pub ready_ticks : ℕ → State → ℕ
+ready_ticks r s = selected_ticks r s + fill_ticks
 
 -- in figures
 pub record Numbers : Type 0 where
-  pub qualify : (size setLevel clearLevel d : ℕ) → qualifyTicks (bucketFrom size setLevel clearLevel d) ≡ 78 + max 782 ((size - clearLevel) * 2 ^ d)
-  pub start : qualifyTicks startBucket ≡ 860
-  pub fill : fillTicks ≡ 5_519
+  pub qualify : (size set_level clear_level d : ℕ) → qualify_ticks (bucket_from size set_level clear_level d) ≡ 78 + max 782 ((size - clear_level) * 2 ^ d)
+  pub start : qualify_ticks start_bucket ≡ 860
+  pub fill : fill_ticks ≡ 5_519
 
 -- how many accepted ticks a list has
-unfoldable pub acceptedTicks : State → List Event → ℕ
-acceptedTicks s [] = 0
-acceptedTicks s (e ∷ es) = (if isTick e && accepted s e then 1 else 0) + acceptedTicks (next s e) es
+unfoldable pub accepted_ticks : State → List Event → ℕ
+accepted_ticks s [] = 0
+accepted_ticks s (e ∷ es) = (if is_tick e && accepted s e then 1 else 0) + accepted_ticks (next s e) es
 
 -- ---- the promise
 
 -- what is promised of a state `now` that `after`, or more events, have led to from the moment, whose state is s: r is selected if `toSelected` accepted ticks
 -- stand in `after`, and Ready stands if `toReady` do
 pub record Served (toSelected toReady r : ℕ) (s : State) (after : List Event) (now : State) : Type 0 where
-  pub selected-is : toSelected ≤ acceptedTicks s after → selected now ≡ r
-  pub ready-is : toReady ≤ acceptedTicks s after → Ready now ≡ true
+  pub selected_is : toSelected ≤ accepted_ticks s after → selected now ≡ r
+  pub ready_is : toReady ≤ accepted_ticks s after → Ready now ≡ true
 
 -- Take every fresh unit, the standard one or a buyer's own, every list of events from it, `before`, `after` and `later`, with the moment after `before`, and
--- every reference r for which the provisos hold. After the accepted tick with number `selectedTicks`, counted from the moment, and after every later event, r
--- is selected; after the one with number `readyTicks`, and after every later event, Ready stands too.
+-- every reference r for which the provisos hold. After the accepted tick with number `selected_ticks`, counted from the moment, and after every later event, r
+-- is selected; after the one with number `ready_ticks`, and after every later event, Ready stands too.
 abbrev pub Promise : Type 0
 Promise =
     (start : State) → Fresh start → (before after later : List Event) (r : ℕ)
     → Provisos r (run start before) (after ++ later)
-    → Served (selectedTicks r (run start before)) (readyTicks r (run start before)) r (run start before) after (run start (before ++ (after ++ later)))
+    → Served (selected_ticks r (run start before)) (ready_ticks r (run start before)) r (run start before) after (run start (before ++ (after ++ later)))
 
 -- The same in figures: "n is the least whole number with 4n at least 1,875 times the reversion delay in minutes." #104: r's set at the moment
 -- is S, U, L, d, and "78 + the larger of 782 and (S − L) times 2^d" stands "for its 860, with 5,519 more to Ready". #107: and the longest window.
 abbrev pub PromiseInFigures : Type 0
 PromiseInFigures =
-    (start : State) → Fresh start → (before after later : List Event) (r n size setLevel clearLevel d : ℕ)
-    → bucketOf (run start before).buckets r ≡ bucketFrom size setLevel clearLevel d
+    (start : State) → Fresh start → (before after later : List Event) (r n size set_level clear_level d : ℕ)
+    → bucket_of (run start before).buckets r ≡ bucket_from size set_level clear_level d
     → LeastDelay (delay (run start before).settings) n
     → Provisos r (run start before) (after ++ later)
-    → let toSelected = 78 + max 782 ((size - clearLevel) * 2 ^ d) + n + longest (run start before).week.windows in
+    → let toSelected = 78 + max 782 ((size - clear_level) * 2 ^ d) + n + longest (run start before).week.windows in
     Served toSelected (toSelected + 5_519) r (run start before) after (run start (before ++ (after ++ later)))
 
 -- In a unit without windows at the moment this is what it was before #107.
 abbrev pub PromiseWithoutWindows : Type 0
 PromiseWithoutWindows =
-    (start : State) → Fresh start → (before after later : List Event) (r n size setLevel clearLevel d : ℕ)
+    (start : State) → Fresh start → (before after later : List Event) (r n size set_level clear_level d : ℕ)
     → (run start before).week.windows ≡ []
-    → bucketOf (run start before).buckets r ≡ bucketFrom size setLevel clearLevel d
+    → bucket_of (run start before).buckets r ≡ bucket_from size set_level clear_level d
     → LeastDelay (delay (run start before).settings) n
     → Provisos r (run start before) (after ++ later)
-    → let toSelected = 78 + max 782 ((size - clearLevel) * 2 ^ d) + n in
+    → let toSelected = 78 + max 782 ((size - clear_level) * 2 ^ d) + n in
     Served toSelected (toSelected + 5_519) r (run start before) after (run start (before ++ (after ++ later)))
 
 -- And with r's set as the sets start this is document 01's: 860 + n, and 6,379 + n.
@@ -130,7 +130,7 @@ abbrev pub PromiseAtStart : Type 0
 PromiseAtStart =
     (start : State) → Fresh start → (before after later : List Event) (r n : ℕ)
     → (run start before).week.windows ≡ []
-    → bucketOf (run start before).buckets r ≡ startBucket
+    → bucket_of (run start before).buckets r ≡ start_bucket
     → LeastDelay (delay (run start before).settings) n
     → Provisos r (run start before) (after ++ later)
     → Served (860 + n) (6_379 + n) r (run start before) after (run start (before ++ (after ++ later)))

@@ -1,6 +1,6 @@
 -- What the rules read in the registers that may be written (document 01, "Registers"). A setting is the value at its address.
 use Rattle.std.specs.Prelude.{ℕ, ◌+◌, ◌*◌, ◌/◌, ◌%◌, Bool, ◌&&◌, ◌||◌, ltb, eqb}
-use Rattle.rules.specs.Words.{if◌then◌else◌, bit, bit_of, isInput}
+use Rattle.rules.specs.Words.{if◌then◌else◌, bit, bit_of, is_input}
 
 abbrev pub Settings : Type 0
 Settings = ℕ → ℕ
@@ -14,8 +14,8 @@ abbrev pub automatic : Settings → Bool
 automatic set = eqb (set 0x40) 1
 
 -- 0x41: "Op_Mode (9 Holdover)"
-abbrev pub opMode : Settings → ℕ
-opMode set = set 0x41
+abbrev pub op_mode : Settings → ℕ
+op_mode set = set 0x41
 
 -- 0x44, 0x45: "reject, qualification limit, 0.5 ppm"
 abbrev pub reject : Settings → ℕ
@@ -35,7 +35,7 @@ revertive set c = bit (set (0x1b + c)) 3
 
 -- 0x42, mask: "a set bit = usable"; 0x24: "Free Run: bit 4 enabled"
 unfoldable pub usable : Settings → ℕ → Bool
-usable set c = if eqb c 9 then bit (set 0x24) 4 else (isInput c && bit_of (set 0x42) c)
+usable set c = if eqb c 9 then bit (set 0x24) 4 else (is_input c && bit_of (set 0x42) c)
 
 -- "candidates are the available references by priority (0 best), then number; Free Run, if enabled, stands after all references of equal priority".
 -- Free Run's number 9 is the largest, so one order serves both.
@@ -47,8 +47,8 @@ abbrev pub delay : Settings → ℕ
 delay set = set 0x43
 
 -- in ticks: "n being the least with 4n ≥ 1,875 times the delay in minutes" (`Delays` in Laws)
-unfoldable pub delayTicks : ℕ → ℕ
-delayTicks minutes = (1875 * minutes + 3) / 4
+unfoldable pub delay_ticks : ℕ → ℕ
+delay_ticks minutes = (1875 * minutes + 3) / 4
 
 abbrev pub reversion : Settings → ℕ
-reversion set = delayTicks (delay set)
+reversion set = delay_ticks (delay set)

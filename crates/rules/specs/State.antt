@@ -36,34 +36,34 @@ Ready s = ready s.history
 
 -- ---- the state with another part
 
-abbrev pub withInputs : Inputs → State → State
-withInputs inputs s =
+abbrev pub with_inputs : Inputs → State → State
+with_inputs inputs s =
     record { inputs = inputs; buckets = s.buckets; settings = s.settings; loop = s.loop; choice = s.choice; history = s.history; holding = s.holding; week = s.week }
 
-abbrev pub withBuckets : Buckets → State → State
-withBuckets buckets s =
+abbrev pub with_buckets : Buckets → State → State
+with_buckets buckets s =
     record { inputs = s.inputs; buckets = buckets; settings = s.settings; loop = s.loop; choice = s.choice; history = s.history; holding = s.holding; week = s.week }
 
-abbrev pub withSettings : Settings → State → State
-withSettings settings s =
+abbrev pub with_settings : Settings → State → State
+with_settings settings s =
     record { inputs = s.inputs; buckets = s.buckets; settings = settings; loop = s.loop; choice = s.choice; history = s.history; holding = s.holding; week = s.week }
 
-abbrev pub withLoop : Loop → State → State
-withLoop loop s =
+abbrev pub with_loop : Loop → State → State
+with_loop loop s =
     record { inputs = s.inputs; buckets = s.buckets; settings = s.settings; loop = loop; choice = s.choice; history = s.history; holding = s.holding; week = s.week }
 
-abbrev pub withChoice : Choice → State → State
-withChoice choice s =
+abbrev pub with_choice : Choice → State → State
+with_choice choice s =
     record { inputs = s.inputs; buckets = s.buckets; settings = s.settings; loop = s.loop; choice = choice; history = s.history; holding = s.holding; week = s.week }
 
-abbrev pub withHistory : History → State → State
-withHistory history s =
+abbrev pub with_history : History → State → State
+with_history history s =
     record { inputs = s.inputs; buckets = s.buckets; settings = s.settings; loop = s.loop; choice = s.choice; history = history; holding = s.holding; week = s.week }
 
-abbrev pub withHolding : ℕ → State → State
-withHolding holding s =
+abbrev pub with_holding : ℕ → State → State
+with_holding holding s =
     record { inputs = s.inputs; buckets = s.buckets; settings = s.settings; loop = s.loop; choice = s.choice; history = s.history; holding = holding; week = s.week }
 
-abbrev pub withWeek : Week → State → State
-withWeek week s =
+abbrev pub with_week : Week → State → State
+with_week week s =
     record { inputs = s.inputs; buckets = s.buckets; settings = s.settings; loop = s.loop; choice = s.choice; history = s.history; holding = s.holding; week = week }

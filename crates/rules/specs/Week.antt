@@ -3,8 +3,8 @@ use Rattle.std.specs.Prelude.{ℕ, zero, suc, ◌+◌, ◌-◌, ◌*◌, max, Bo
 use Rattle.rules.specs.Words.{if◌then◌else◌}
 
 -- "A week is 4,725,000 ticks"
-abbrev pub weekTicks : ℕ
-weekTicks = 4_725_000
+abbrev pub week_ticks : ℕ
+week_ticks = 4_725_000
 
 -- "each from its first tick up to but not including its end"
 pub record Window : Type 0 where
@@ -17,21 +17,21 @@ pub record Week : Type 0 where
   pub windows : List Window
 
 -- "fresh 0, with no windows"
-unfoldable pub freshWeek : Week
-freshWeek = record { place = 0; windows = [] }
+unfoldable pub fresh_week : Week
+fresh_week = record { place = 0; windows = [] }
 
 -- a place lies in a window
-unfoldable pub inWindow : ℕ → Window → Bool
-inWindow place w = leb w.start place && ltb place w.end
+unfoldable pub in_window : ℕ → Window → Bool
+in_window place w = leb w.start place && ltb place w.end
 
 -- busy hours: it lies in one of them
 unfoldable pub busy : List Window → ℕ → Bool
 busy [] place = false
-busy (w ∷ ws) place = inWindow place w || busy ws place
+busy (w ∷ ws) place = in_window place w || busy ws place
 
 -- "each tick advances it .., returning to 0 at the end"; a place past the end, which no call stores, returns too
 unfoldable pub advanced : ℕ → ℕ
-advanced place = if ltb (place + 1) weekTicks then place + 1 else 0
+advanced place = if ltb (place + 1) week_ticks then place + 1 else 0
 
 -- "The longest window", in ticks; 0 if there is none
 unfoldable pub longest : List Window → ℕ
@@ -41,42 +41,42 @@ longest (w ∷ ws) = max (w.end - w.start) (longest ws)
 -- ---- the check
 
 -- not "start not before end", nor "end past the week"
-unfoldable pub isWindow : Window → Bool
-isWindow w = ltb w.start w.end && leb w.end weekTicks
+unfoldable pub is_window : Window → Bool
+is_window w = ltb w.start w.end && leb w.end week_ticks
 
 -- "ascending with a free tick between": each starts after the end of the one before it. The first starts at `from` or later.
 unfoldable pub ascending : ℕ → List Window → Bool
 ascending from [] = true
-ascending from (w ∷ ws) = leb from w.start && (isWindow w && ascending (w.end + 1) ws)
+ascending from (w ∷ ws) = leb from w.start && (is_window w && ascending (w.end + 1) ws)
 
 -- "first at 0"
-unfoldable pub startsWeek : List Window → Bool
-startsWeek [] = false
-startsWeek (w ∷ ws) = eqb w.start 0
+unfoldable pub starts_week : List Window → Bool
+starts_week [] = false
+starts_week (w ∷ ws) = eqb w.start 0
 
 -- the end of the last of them, or `end` if there is none; "last ending the week"
 unfoldable pub last_end : ℕ → List Window → ℕ
 last_end end [] = end
 last_end end (w ∷ ws) = last_end w.end ws
 
-unfoldable pub endsWeek : List Window → Bool
-endsWeek ws = eqb (last_end 0 ws) weekTicks
+unfoldable pub ends_week : List Window → Bool
+ends_week ws = eqb (last_end 0 ws) week_ticks
 
 -- not "over eight windows", nor one of the others
-unfoldable pub windowsFit : List Window → Bool
-windowsFit ws = leb (length ws) 8 && (ascending 0 ws && not (startsWeek ws && endsWeek ws))
+unfoldable pub windows_fit : List Window → Bool
+windows_fit ws = leb (length ws) 8 && (ascending 0 ws && not (starts_week ws && ends_week ws))
 
 -- ---- windows written as numbers, start and end in turn
 
 -- window k of them, the first being window 0; a number that is not there counts as 0
-abbrev pub windowAt : ℕ → List ℕ → Window
-windowAt k numbers = record { start = get_or numbers (2 * k) 0; end = get_or numbers (2 * k + 1) 0 }
+abbrev pub window_at : ℕ → List ℕ → Window
+window_at k numbers = record { start = get_or numbers (2 * k) 0; end = get_or numbers (2 * k + 1) 0 }
 
 -- `count` of them, from window k on
-unfoldable pub windowsFrom : ℕ → ℕ → List ℕ → List Window
-windowsFrom zero k numbers = []
-windowsFrom (suc count) k numbers = windowAt k numbers ∷ windowsFrom count (k + 1) numbers
+unfoldable pub windows_from : ℕ → ℕ → List ℕ → List Window
+windows_from zero k numbers = []
+windows_from (suc count) k numbers = window_at k numbers ∷ windows_from count (k + 1) numbers
 
 -- a call's windows: start and end of each of the first `count`
-abbrev pub firstWindows : ℕ → List ℕ → List Window
-firstWindows count numbers = windowsFrom count 0 numbers
+abbrev pub first_windows : ℕ → List ℕ → List Window
+first_windows count numbers = windows_from count 0 numbers

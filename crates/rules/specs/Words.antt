@@ -25,13 +25,13 @@ bit_of mask i = bit mask (i - 1)
 
 -- "1 to 8" has three roles, and a name for each.
 -- the number of an input
-abbrev pub isInput : ℕ → Bool
-isInput i = between 1 8 i
+abbrev pub is_input : ℕ → Bool
+is_input i = between 1 8 i
 
 -- a source that the PLL tracks: a reference 1 to 8; 0 is none, and 9 is Free Run as a candidate
-abbrev pub isTracked : ℕ → Bool
-isTracked c = between 1 8 c
+abbrev pub is_tracked : ℕ → Bool
+is_tracked c = between 1 8 c
 
 -- a reference that counts for the history: "0 and 9 don't count"
-abbrev pub isCounted : ℕ → Bool
-isCounted c = between 1 8 c
+abbrev pub is_counted : ℕ → Bool
+is_counted c = between 1 8 c

@@ -9,22 +9,22 @@ use lib.Seq.{length-take-le, take_at, drop_at, drop-drop, get_or-drop}
 use Rattle.rules.specs.Events.{Event, write}
 use Rattle.rules.specs.State.{State}
 use Rattle.rules.specs.Run.{Outcome, outcome}
-use Rattle.rules.specs.Sheet.{event, bad, decode, settingsOf, before, eventsOf, recordOf, records, over}
+use Rattle.rules.specs.Sheet.{event, bad, decode, settings_of, before, events_of, record_of, records, over}
 use Rattle.sheet.proofs.Turns.{one_less, next}
-use Rattle.rules.proofs.Parts.{came-back}
+use Rattle.rules.proofs.Parts.{came_back}
 
 module _ (n i : ℕ) (l : List ℕ) (h : i < n) where
-  pub events-more : (e : Event) → decode (drop (8 * i) l) ≡ event e → eventsOf (n - i) (drop (8 * i) l) ≡ e ∷ eventsOf (n - (i + 1)) (drop (8 * (i + 1)) l)
-  unfolding eventsOf before
-  events-more e d = rw (one_less n i h, d, next 8 (8 * i) (8 * (i + 1)) l (omega arith)) refl
+  pub events_more : (e : Event) → decode (drop (8 * i) l) ≡ event e → events_of (n - i) (drop (8 * i) l) ≡ e ∷ events_of (n - (i + 1)) (drop (8 * (i + 1)) l)
+  unfolding events_of before
+  events_more e d = rw (one_less n i h, d, next 8 (8 * i) (8 * (i + 1)) l (omega arith)) refl
 
-  pub events-stop : decode (drop (8 * i) l) ≡ bad → eventsOf (n - i) (drop (8 * i) l) ≡ []
-  unfolding eventsOf before
-  events-stop d = rw (one_less n i h, d) refl
+  pub events_stop : decode (drop (8 * i) l) ≡ bad → events_of (n - i) (drop (8 * i) l) ≡ []
+  unfolding events_of before
+  events_stop d = rw (one_less n i h, d) refl
 
-  pub settings-more : settingsOf (n - i) (drop (2 * i) l) ≡ write (get_or l (2 * i) 0) (get_or l (2 * i + 1) 0) ∷ settingsOf (n - (i + 1)) (drop (2 * (i + 1)) l)
-  unfolding settingsOf
-  settings-more = rw (one_less n i h, next 2 (2 * i) (2 * (i + 1)) l (omega arith)) (simp (get_or-drop, add-zero))
+  pub settings_more : settings_of (n - i) (drop (2 * i) l) ≡ write (get_or l (2 * i) 0) (get_or l (2 * i + 1) 0) ∷ settings_of (n - (i + 1)) (drop (2 * (i + 1)) l)
+  unfolding settings_of
+  settings_more = rw (one_less n i h, next 2 (2 * i) (2 * (i + 1)) l (omega arith)) (simp (get_or-drop, add-zero))
 
 -- Part of the records are written: those of the first `written` bytes. What is left is `rest`, from the state s.
 pub record Going (all before : List ℕ) (written : ℕ) (s : State) (rest : List Event) (out : List ℕ) : Type 0 where
@@ -38,10 +38,10 @@ going_start s es out = record { same = refl; front = refl; back = refl }
 going_more :
     (all before : List ℕ) (written : ℕ) (s : State) (e : Event) (es : List Event) (out : List ℕ)
     → written + 4 ≤ length before → Going all before written s (e ∷ es) out
-    → Going all before (written + 4) (outcome s e).state es ((take written out ++ recordOf (outcome s e)) ++ drop (written + 4) out)
-unfolding records recordOf
+    → Going all before (written + 4) (outcome s e).state es ((take written out ++ record_of (outcome s e)) ++ drop (written + 4) out)
+unfolding records record_of
 going_more all before written s e es out h g =
-    let r = recordOf (outcome s e) in
+    let r = record_of (outcome s e) in
     let t : length (take written out) ≡ written = length-take-le written out (omega (arith, g.same)) in
     let f : length (take written out ++ r) ≡ written + 4 = length-append (take written out) r ∙ ap (λ (k : ℕ). k + 4) t in
     record {
@@ -57,14 +57,14 @@ pub going-put :
     (all before : List ℕ) (written further : ℕ) (s : State) (e : Event) (rest es : List Event) (out w : List ℕ) (o : Outcome)
     → written + 4 ≡ further → further ≤ length before
     → rest ≡ e ∷ es → o ≡ outcome s e
-    → w ≡ over (recordOf o) (take (length out - written) (drop written out))
+    → w ≡ over (record_of o) (take (length out - written) (drop written out))
     → Going all before written s rest out
     → Going all before further o.state es (take written out ++ (w ++ drop (length out - written) (drop written out)))
-unfolding recordOf
+unfolding record_of
 going-put all before written further s e rest es out w o f h r q p g =
     rw (p, q, ← f)
     (subst (λ (t : List ℕ). Going all before (written + 4) (outcome s e).state es t)
-    (sym (came-back written (recordOf (outcome s e)) out))
+    (sym (came_back written (record_of (outcome s e)) out))
     (going_more all before written s e es out (omega arith) (subst (λ (k : List Event). Going all before written s k out) r g)))
 
 -- Nothing is left to run.

@@ -3,10 +3,10 @@
 ghost use Rattle.std.specs.Prelude.{◌≡◌, ◌*◌, ◌≤◌, length};
 ghost use Rattle.rules.specs.Run as rules;
 ghost use Rattle.rules.specs.Sheet as rules-sheet;
-ghost use Rattle.rules.specs.Sheet.{settingsOf, eventsOf, recordOf, records, front, over, outputAfter};
-ghost use Rattle.rules.specs.Registers.{settingsFrom};
+ghost use Rattle.rules.specs.Sheet.{settings_of, events_of, record_of, records, front, over, output_after};
+ghost use Rattle.rules.specs.Registers.{settings_from};
 ghost use Rattle.selection.specs.Bridge.{Follows};
-ghost use Rattle.state.specs.Stored.{Stored, meaning, withCore, withSoak};
+ghost use Rattle.state.specs.Stored.{Stored, meaning, with_core, with_soak};
 ghost use Rattle.unit.specs.Lent.{entering, leaving};
 
 use buckets::Row;
@@ -18,10 +18,10 @@ use state::{Core, Unit};
 
 // ---- the run
 
-// The rule `recordOf`, at the front of a part of the output.
+// The rule `record_of`, at the front of a part of the output.
 fn put_record(out: &mut [u8], refusal: u8, k: Core, soak: &Row)
     requires { 4 ≤ length out.old }
-    ensures { (s : Stored) → out.new ≡ over (recordOf (record { refusal = refusal; state = meaning (withCore k (withSoak soak.now s)) })) out.old }
+    ensures { (s : Stored) → out.new ≡ over (record_of (record { refusal = refusal; state = meaning (with_core k (with_soak soak.now s)) })) out.old }
 {
     let mode = k.pll.mode;
     let status = readout::status_byte(
@@ -51,10 +51,10 @@ fn run_settings(
     backup: &mut Sums,
     out: &mut [u8],
 ) -> Core
-    requires { (2 * n ≤ length part.now) × (4 * n ≤ length out.old) × Follows (settingsFrom regs.old) keys.old handed.old }
-    ensures s_value { (s : Stored) → meaning (withCore result (withSoak soak.now (leaving regs sums building backup s))) ≡ rules.run (meaning (withCore start (withSoak soak.now (entering regs sums building backup s)))) (settingsOf n part.now) }
-    ensures out_after { (s : Stored) → out.new ≡ over (records (meaning (withCore start (withSoak soak.now (entering regs sums building backup s)))) (settingsOf n part.now)) out.old }
-    ensures follows { Follows (settingsFrom regs.new) keys.new handed.new }
+    requires { (2 * n ≤ length part.now) × (4 * n ≤ length out.old) × Follows (settings_from regs.old) keys.old handed.old }
+    ensures s_value { (s : Stored) → meaning (with_core result (with_soak soak.now (leaving regs sums building backup s))) ≡ rules.run (meaning (with_core start (with_soak soak.now (entering regs sums building backup s)))) (settings_of n part.now) }
+    ensures out_after { (s : Stored) → out.new ≡ over (records (meaning (with_core start (with_soak soak.now (entering regs sums building backup s)))) (settings_of n part.now)) out.old }
+    ensures follows { Follows (settings_from regs.new) keys.new handed.new }
 {
     let mut k = start;
     let mut i = 0;
@@ -94,8 +94,8 @@ fn run_events(
     backup: &mut Sums,
     out: &mut [u8],
 )
-    requires { (8 * n ≤ length part.now) × (4 * n ≤ length out.old) × Follows (settingsFrom regs.old) keys.old handed.old }
-    ensures { out.new ≡ over (records (meaning (withCore start (entering regs sums building backup u))) (eventsOf n part.now)) out.old }
+    requires { (8 * n ≤ length part.now) × (4 * n ≤ length out.old) × Follows (settings_from regs.old) keys.old handed.old }
+    ensures { out.new ≡ over (records (meaning (with_core start (entering regs sums building backup u))) (events_of n part.now)) out.old }
 {
     let m = u.monitors;
     let mut level = m.level;
@@ -148,11 +148,11 @@ fn run_events(
     }
 }
 
-// The rules `front` and `outputAfter`: runs a sheet into the front of the output, and says how many bytes that is, 0 where the sheet is refused.
+// The rules `front` and `output_after`: runs a sheet into the front of the output, and says how many bytes that is, 0 where the sheet is refused.
 // Not: a refused sheet run all the same; the bytes after the records cleared.
 pub fn run_into(sheet: &[u8], out: &mut [u8]) -> usize
     ensures value { result ≡ length (front sheet.now (length out.old)) }
-    ensures out_after { out.new ≡ outputAfter sheet.now out.old }
+    ensures out_after { out.new ≡ output_after sheet.now out.old }
 {
     if sheet::check(sheet, out.len()) != 0 {
         return 0;
@@ -227,7 +227,7 @@ pub extern "C" fn sheet_check(sheet: &[u8], room: usize) -> u8
 #[unsafe(no_mangle)]
 pub extern "C" fn sheet_run(sheet: &[u8], out: &mut [u8]) -> usize
     ensures value { result ≡ length (front sheet.now (length out.old)) }
-    ensures out_after { out.new ≡ outputAfter sheet.now out.old }
+    ensures out_after { out.new ≡ output_after sheet.now out.old }
 {
     run_into(sheet, out)
 }

@@ -1,16 +1,16 @@
 // Selection (document 01, step 4, and the busy hours of document 02, #107): the wait, and the choice of a tick. The registers, the inputs' soaks, the
-// candidates' keys and the windows are lent for reading, and the contracts hold whatever else the inputs are. The settings are `settingsFrom` of the
+// candidates' keys and the windows are lent for reading, and the contracts hold whatever else the inputs are. The settings are `settings_from` of the
 // registers.
 ghost use Rattle.std.specs.Prelude.{◌≡◌, ◌-◌, ◌≤◌, eqb};
 ghost use Rattle.rules.specs.Words.{if◌then◌else◌};
-ghost use Rattle.rules.specs.Settings.{delayTicks, reversion};
+ghost use Rattle.rules.specs.Settings.{delay_ticks, reversion};
 ghost use Rattle.rules.specs.Week.{busy};
 ghost use Rattle.rules.specs.Selection as selection;
-ghost use Rattle.rules.specs.Selection.{waitAfter};
-ghost use Rattle.rules.specs.Registers.{settingsFrom};
-ghost use Rattle.inputs.specs.Bridge.{inputsOf, withSoak};
+ghost use Rattle.rules.specs.Selection.{wait_after};
+ghost use Rattle.rules.specs.Registers.{settings_from};
+ghost use Rattle.inputs.specs.Bridge.{inputs_of, with_soak};
 ghost use Rattle.inputs.specs.declared.Monitors as stored;
-ghost use Rattle.week.specs.Bridge.{windowsOf};
+ghost use Rattle.week.specs.Bridge.{windows_of};
 ghost use Rattle.selection.specs.Bridge.{choice_of, Follows};
 
 use arith::{both, wide32};
@@ -54,9 +54,9 @@ fn waited(b: u32, c: Choice) -> u32
     if c.awaited == b { c.wait } else { 0 }
 }
 
-// The rule `waitAfter`: the wait for `b` with this tick, in a window or not. In one a wait over n for the same best stays.
+// The rule `wait_after`: the wait for `b` with this tick, in a window or not. In one a wait over n for the same best stays.
 fn wait_after(blocked: bool, n: u32, b: u32, c: Choice) -> u32
-    ensures { result ≡ waitAfter blocked n b (choice_of c) }
+    ensures { result ≡ wait_after blocked n b (choice_of c) }
 {
     let so_far = waited(b, c);
     if so_far < WAIT_LIMIT {
@@ -96,7 +96,7 @@ fn waiting(wait: u32, b: u32, c: Choice) -> Choice
 // The rule `reverted`: the reversion to `b`, with a delay of so many minutes, of which a floor was handed on. A wait that is not over by the floor is not over,
 // and rises in a window as outside: table and windows are looked at only where it is.
 fn reverted(windows: &Windows, place: u32, handed: u32, minutes: u8, b: u32, c: Choice) -> Choice
-    ensures { handed ≤ delayTicks minutes → choice_of result ≡ selection.reverted (busy (windowsOf windows.now) place) (delayTicks minutes) b (choice_of c) }
+    ensures { handed ≤ delay_ticks minutes → choice_of result ≡ selection.reverted (busy (windows_of windows.now) place) (delay_ticks minutes) b (choice_of c) }
 {
     let risen = wait_after(false, handed, b, c);
     if !switches(handed, risen) {
@@ -124,7 +124,7 @@ fn reselected(
     b: u32,
     c: Choice,
 ) -> Choice
-    ensures { (m : stored.Monitors) → handed ≤ reversion (settingsFrom regs.now) → choice_of result ≡ selection.reselected (busy (windowsOf windows.now) place) (settingsFrom regs.now) (inputsOf (withSoak m soak.now)) b (choice_of c) }
+    ensures { (m : stored.Monitors) → handed ≤ reversion (settings_from regs.now) → choice_of result ≡ selection.reselected (busy (windows_of windows.now) place) (settings_from regs.now) (inputs_of (with_soak m soak.now)) b (choice_of c) }
 {
     if c.selected == b {
         return settled(b);
@@ -142,7 +142,7 @@ fn reselected(
 
 // The rule `manual`.
 fn manual(soak: &Row, regs: &Registers) -> Choice
-    ensures { (m : stored.Monitors) → choice_of result ≡ selection.manual (settingsFrom regs.now) (inputsOf (withSoak m soak.now)) }
+    ensures { (m : stored.Monitors) → choice_of result ≡ selection.manual (settings_from regs.now) (inputs_of (with_soak m soak.now)) }
 {
     let s = wide32(setting(regs, 0x41));
     let good = qualified_at(soak, s);
@@ -163,7 +163,7 @@ pub fn chosen(
     place: u32,
     c: Choice,
 ) -> Choice
-    ensures { (m : stored.Monitors) → Follows (settingsFrom regs.now) keys.now handed → choice_of result ≡ selection.chosen (busy (windowsOf windows.now) place) (settingsFrom regs.now) (inputsOf (withSoak m soak.now)) (choice_of c) }
+    ensures { (m : stored.Monitors) → Follows (settings_from regs.now) keys.now handed → choice_of result ≡ selection.chosen (busy (windows_of windows.now) place) (settings_from regs.now) (inputs_of (with_soak m soak.now)) (choice_of c) }
 {
     let auto = is_automatic(regs);
     if auto {

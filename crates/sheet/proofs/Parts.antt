@@ -8,9 +8,9 @@ use lib.Seq.{get_or-take}
 use Rattle.rules.specs.Sheet.{decode}
 
 -- what decodes of the eight bytes from a place on is what decodes there
-pub event-part : (a : ℕ) (l : List ℕ) → decode (take (a + 8 - a) (drop a l)) ≡ decode (drop a l)
+pub event_part : (a : ℕ) (l : List ℕ) → decode (take (a + 8 - a) (drop a l)) ≡ decode (drop a l)
 unfolding decode
-event-part a l =
+event_part a l =
     let n : a + 8 - a ≡ 8 = omega arith in
     let byte : (k : ℕ) → k < 8 → get_or (take 8 (drop a l)) k 0 ≡ get_or (drop a l) k 0 = λ k h. get_or-take 8 (drop a l) k 0 h in
     rw n
@@ -26,5 +26,5 @@ event-part a l =
     ))
 
 -- they are eight, if the list has them
-pub event-length : (a : ℕ) (l : List ℕ) → a + 8 ≤ length l → 8 ≤ length (take (a + 8 - a) (drop a l))
-event-length a l h = simp (length-take, length-drop) (omega arith)
+pub event_length : (a : ℕ) (l : List ℕ) → a + 8 ≤ length l → 8 ≤ length (take (a + 8 - a) (drop a l))
+event_length a l h = simp (length-take, length-drop) (omega arith)

@@ -7,7 +7,7 @@ use native.Mathlib.Omega.{arith}
 use lib.ListN.{drop}
 use lib.Seq.{drop-drop}
 use Rattle.rules.specs.Events.{Event}
-use Rattle.rules.specs.Sheet.{event, bad, decode, isEvent, allEvents}
+use Rattle.rules.specs.Sheet.{event, bad, decode, is_event, all_events}
 
 pub one_less : (n i : ℕ) → i < n → n - i ≡ suc (n - (i + 1))
 one_less n i h = omega arith
@@ -17,10 +17,10 @@ pub next : (k a b : ℕ) (l : List ℕ) → a + k ≡ b → drop k (drop a l) �
 next k a b l h = drop-drop k a l ∙ ap (λ (m : ℕ). drop m l) h
 
 module _ (n i : ℕ) (l : List ℕ) (h : i < n) where
-  pub good_more : (e : Event) → decode (drop (8 * i) l) ≡ event e → allEvents (n - i) (drop (8 * i) l) ≡ allEvents (n - (i + 1)) (drop (8 * (i + 1)) l)
-  unfolding allEvents isEvent
+  pub good_more : (e : Event) → decode (drop (8 * i) l) ≡ event e → all_events (n - i) (drop (8 * i) l) ≡ all_events (n - (i + 1)) (drop (8 * (i + 1)) l)
+  unfolding all_events is_event
   good_more e d = rw (one_less n i h, d, next 8 (8 * i) (8 * (i + 1)) l (omega arith)) refl
 
-  pub good-stop : decode (drop (8 * i) l) ≡ bad → allEvents (n - i) (drop (8 * i) l) ≡ false
-  unfolding allEvents isEvent
-  good-stop d = rw (one_less n i h, d) refl
+  pub good_stop : decode (drop (8 * i) l) ≡ bad → all_events (n - i) (drop (8 * i) l) ≡ false
+  unfolding all_events is_event
+  good_stop d = rw (one_less n i h, d) refl

@@ -2,8 +2,8 @@
 // Each contract is an equation with a rule of crates/rules/specs/Sheet.antt; the rule is named above the function.
 ghost use Rattle.std.specs.Prelude.{◌≡◌, ◌+◌, ◌*◌, ◌≤◌, ◌<◌, length, get_or};
 ghost use Rattle.rules.specs.Sheet as rules;
-ghost use Rattle.rules.specs.Sheet.{word16, word32, signedWord, settingsCount, eventsCount, allEvents};
-ghost use Rattle.fields.specs.Bridge.{decodedOf};
+ghost use Rattle.rules.specs.Sheet.{word16, word32, signed_word, settings_count, events_count, all_events};
+ghost use Rattle.fields.specs.Bridge.{decoded_of};
 
 use fields::Decoded;
 
@@ -16,9 +16,9 @@ fn wide(x: u8) -> u32
     x as u32
 }
 
-// The rule `signedWord`.
+// The rule `signed_word`.
 fn signed_word(n: u32) -> i32
-    ensures { result ≡ signedWord n }
+    ensures { result ≡ signed_word n }
 {
     if n < 2_147_483_648 {
         return n as i32;
@@ -47,8 +47,8 @@ fn word_at(s: &[u8], at: usize) -> u32
 // The rule `decode`: the event in the first 8 bytes of a part of the sheet. A shorter part has none.
 // Not: a and b in the other order; the word's high byte first; byte 3 not looked at.
 pub fn read_event(part: &[u8]) -> Decoded
-    ensures result_value { 8 ≤ length part.now → decodedOf result ≡ rules.decode part.now }
-    ensures result_value_2 { length part.now < 8 → decodedOf result ≡ rules.bad }
+    ensures result_value { 8 ≤ length part.now → decoded_of result ≡ rules.decode part.now }
+    ensures result_value_2 { length part.now < 8 → decoded_of result ≡ rules.bad }
 {
     if part.len() < 8 {
         return Decoded::Bad;
@@ -60,10 +60,10 @@ pub fn read_event(part: &[u8]) -> Decoded
     Decoded::Bad
 }
 
-// The rule `allEvents`: each of n events is one.
+// The rule `all_events`: each of n events is one.
 fn events_good(part: &[u8], n: usize) -> bool
     requires { 8 * n ≤ length part.now }
-    ensures { result ≡ allEvents n part.now }
+    ensures { result ≡ all_events n part.now }
 {
     let mut i = 0;
     while i < n {
@@ -104,10 +104,10 @@ fn count_at(s: &[u8], at: usize) -> usize
     (byte_at(s, at) + 256 * byte_at(s, at + 1)) as usize
 }
 
-// The rules `settingsCount` and `eventsCount`.
+// The rules `settings_count` and `events_count`.
 // Not: the high byte first; the events' count read at the settings' place.
 pub fn counts_of(sheet: &[u8]) -> Counts
-    ensures settings_value { (result.settings ≡ settingsCount sheet.now) × (result.events ≡ eventsCount sheet.now) }
+    ensures settings_value { (result.settings ≡ settings_count sheet.now) × (result.events ≡ events_count sheet.now) }
     ensures settings_bound { (result.settings < 65_536) × (result.events < 65_536) }
 {
     let settings = count_at(sheet, 0);

@@ -2,7 +2,7 @@
 // rules it is.
 ghost use Rattle.std.specs.Prelude.{◌≡◌};
 ghost use Rattle.rules.specs.Registers as rules;
-ghost use Rattle.rules.specs.Registers.{settingsFrom};
+ghost use Rattle.rules.specs.Registers.{settings_from};
 ghost use Rattle.state.specs.Lent.{wholly};
 ghost use Rattle.state.specs.Stored.{meaning, Made};
 
@@ -74,7 +74,7 @@ pub fn fresh() -> Unit
 
 // ---- in a unit whose arrays are lent, whatever they hold
 
-// The rule `freshWith`: a fresh unit with these registers, whatever lay in the arrays; returned is its core.
+// The rule `fresh_with`: a fresh unit with these registers, whatever lay in the arrays; returned is its core.
 // Not: the standard registers for those given; a row that is not made anew.
 pub fn make_with(
     level: &mut Row,
@@ -92,7 +92,7 @@ pub fn make_with(
     regs: &mut Registers,
     values: &Registers,
 ) -> Core
-    ensures { wholly level decay activity frequency remainder soak sets assigned sums building backup windows regs (λ before after. meaning (after result) ≡ rules.freshWith (settingsFrom values.now)) }
+    ensures { wholly level decay activity frequency remainder soak sets assigned sums building backup windows regs (λ before after. meaning (after result) ≡ rules.fresh_with (settings_from values.now)) }
 {
     let m = inputs::fresh_monitors();
     let b = buckets::fresh_buckets();

@@ -7,16 +7,16 @@ use native.Mathlib.Numerals.{add-one}
 use native.Mathlib.Omega.{arith}
 use lib.ListN.{drop}
 use lib.Seq.{drop-drop}
-use Rattle.rules.specs.Printout.{recordLine, recordLines}
+use Rattle.rules.specs.Printout.{record_line, record_lines}
 
-last_line : (k i : ℕ) (l : List ℕ) → recordLines (suc k) i l ≡ recordLines k i l ++ recordLine (i + k) (drop (4 * k) l)
-unfolding recordLines
-last_line zero i l = append-nil (recordLine i l) ∙ ap (λ n. recordLine n l) (sym (add-zero i))
+last_line : (k i : ℕ) (l : List ℕ) → record_lines (suc k) i l ≡ record_lines k i l ++ record_line (i + k) (drop (4 * k) l)
+unfolding record_lines
+last_line zero i l = append-nil (record_line i l) ∙ ap (λ n. record_line n l) (sym (add-zero i))
 last_line (suc k) i l =
     let index : i + 1 + k ≡ i + suc k = omega arith in
     let place : 4 + 4 * k ≡ 4 * suc k = omega arith in
-    ap (λ t. recordLine i l ++ t) (last_line k (i + 1) (drop 4 l) ∙ rw (drop-drop, index, place))
-    ∙ sym (append_assoc (recordLine i l) (recordLines k (i + 1) (drop 4 l)) (recordLine (i + suc k) (drop (4 * suc k) l)))
+    ap (λ t. record_line i l ++ t) (last_line k (i + 1) (drop 4 l) ∙ rw (drop-drop, index, place))
+    ∙ sym (append_assoc (record_line i l) (record_lines k (i + 1) (drop 4 l)) (record_line (i + suc k) (drop (4 * suc k) l)))
 
-pub next-line : (i : ℕ) (l : List ℕ) → recordLines (i + 1) 0 l ≡ recordLines i 0 l ++ recordLine i (drop (4 * i) l)
-next-line i l = rw (add-one, last_line i 0 l, zero-add)
+pub next_line : (i : ℕ) (l : List ℕ) → record_lines (i + 1) 0 l ≡ record_lines i 0 l ++ record_line i (drop (4 * i) l)
+next_line i l = rw (add-one, last_line i 0 l, zero-add)

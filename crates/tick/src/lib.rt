@@ -1,13 +1,13 @@
 // A tick (document 01): its five steps in order, each by the function of its rule. What a tick changes in arrays lies with the caller and is changed there; the
 // numbers go by value.
 ghost use Rattle.std.specs.Prelude.{◌≡◌, ◌&&◌};
-ghost use Rattle.rules.specs.Words.{if◌then◌else◌, isTracked};
-ghost use Rattle.rules.specs.Monitors.{lockAlarmed};
-ghost use Rattle.rules.specs.Pll.{alarmDue};
+ghost use Rattle.rules.specs.Words.{if◌then◌else◌, is_tracked};
+ghost use Rattle.rules.specs.Monitors.{lock_alarmed};
+ghost use Rattle.rules.specs.Pll.{alarm_due};
 ghost use Rattle.rules.specs.Pll as pll;
 ghost use Rattle.rules.specs.Inputs.{altered};
 ghost use Rattle.rules.specs.Tick as rules;
-ghost use Rattle.inputs.specs.Bridge.{inputsOf, withLockAlarms};
+ghost use Rattle.inputs.specs.Bridge.{inputs_of, with_lock_alarms};
 ghost use Rattle.inputs.specs.declared.Monitors as stored;
 ghost use Rattle.pll.specs.Bridge.{loop_of};
 ghost use Rattle.state.specs.Stored.{Stored, meaning};
@@ -24,7 +24,7 @@ use week::Windows;
 
 // Step 3: "Only if a reference 1 to 8 is selected when the tick begins."
 fn looped(lock: bool, selected: u32, p: Loop) -> Loop
-    ensures { loop_of result ≡ (if isTracked selected then pll.looped lock (loop_of p) else loop_of p) }
+    ensures { loop_of result ≡ (if is_tracked selected then pll.looped lock (loop_of p) else loop_of p) }
 {
     let tracked = is_tracked(selected);
     if tracked {
@@ -35,7 +35,7 @@ fn looped(lock: bool, selected: u32, p: Loop) -> Loop
 
 // Step 3: "Unlock run 782 (100 s) sets that input's lock alarm".
 fn alarmed(selected: u32, p: Loop, remainder: &mut Row, soak: &mut Row)
-    ensures { (m : stored.Monitors) → inputsOf (withLockAlarms m remainder.new soak.new) ≡ (if isTracked selected && alarmDue (loop_of p) then altered lockAlarmed selected (inputsOf (withLockAlarms m remainder.old soak.old)) else inputsOf (withLockAlarms m remainder.old soak.old)) }
+    ensures { (m : stored.Monitors) → inputs_of (with_lock_alarms m remainder.new soak.new) ≡ (if is_tracked selected && alarm_due (loop_of p) then altered lock_alarmed selected (inputs_of (with_lock_alarms m remainder.old soak.old)) else inputs_of (with_lock_alarms m remainder.old soak.old)) }
 {
     let due = both(is_tracked(selected), pll::alarm_due(p));
     if due {

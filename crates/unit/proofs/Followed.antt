@@ -6,26 +6,26 @@ use mathlib.Core.Bool.{false}
 use lib.Dec.{eqb}
 use borrow.Author.Tests.{eqb-false, ne_eqb}
 use Rattle.rules.specs.Words.{if◌then◌else◌}
-use Rattle.rules.specs.Settings.{Settings, delay, delayTicks, reversion}
+use Rattle.rules.specs.Settings.{Settings, delay, delay_ticks, reversion}
 use Rattle.rules.specs.Registers.{written}
-use Rattle.rules.proofs.Tests.{if-case}
+use Rattle.rules.proofs.Tests.{if_case}
 
 -- a write at another address leaves the minutes
-same-minutes : (set : Settings) (a v : ℕ) → eqb a 0x43 ≡ false → (if eqb a 0x26 then set else written a v set) 0x43 ≡ set 0x43
+same_minutes : (set : Settings) (a v : ℕ) → eqb a 0x43 ≡ false → (if eqb a 0x26 then set else written a v set) 0x43 ≡ set 0x43
 unfolding written
-same-minutes set a v other =
-    if-case (λ (f : Settings). f 0x43 ≡ set 0x43) (eqb a 0x26) (λ _. refl)
+same_minutes set a v other =
+    if_case (λ (f : Settings). f 0x43 ≡ set 0x43) (eqb a 0x26) (λ _. refl)
     (λ _. rw (ne_eqb 0x43 a (λ e. eqb-false a 0x43 other (sym e))) refl)
 
-pub delay-follows : (set after : Settings) (a v n m : ℕ)
+pub delay_follows : (set after : Settings) (a v n m : ℕ)
     → after ≡ (if eqb a 0x26 then set else written a v set)
-    → m ≡ (if eqb a 0x43 then delayTicks (delay after) else n)
+    → m ≡ (if eqb a 0x43 then delay_ticks (delay after) else n)
     → n ≤ reversion set
     → m ≤ reversion after
-delay-follows set after a v n m is made follows =
+delay_follows set after a v n m is made follows =
     rw made
-    (if-case (λ k. k ≤ reversion after) (eqb a 0x43)
+    (if_case (λ k. k ≤ reversion after) (eqb a 0x43)
     (λ _. omega arith)
     (λ other.
-    let same : delay after ≡ delay set = ap delay is ∙ same-minutes set a v other in
+    let same : delay after ≡ delay set = ap delay is ∙ same_minutes set a v other in
     rw same follows))

@@ -3,7 +3,7 @@ use Rattle.std.specs.Prelude.{ℕ, ◌≡◌}
 use Rattle.rules.specs.Events.{Event}
 use Rattle.rules.specs.State.{State}
 use Rattle.rules.specs.Run.{Outcome, outcome}
-use Rattle.rules.specs.Sheet.{Decoded, event, bad, decodedNumber}
+use Rattle.rules.specs.Sheet.{Decoded, event, bad, decoded_number}
 use Rattle.state.specs.Stored.{Stored, meaning}
 
 -- From unit s to number n and unit t, where `gives` is what the rules give: number and state are the rules', and what is turned down leaves every stored number
@@ -19,4 +19,4 @@ Gives s e n t = Leads s (λ u. outcome u e) n t
 -- what decoded fields give in state s: the event's outcome, or the number of no event and the state "as before"
 abbrev pub given : Decoded → State → Outcome
 given (event e) s = outcome s e
-given bad s = record { refusal = decodedNumber bad; state = s }
+given bad s = record { refusal = decoded_number bad; state = s }

@@ -2,17 +2,17 @@
 // The arrays of the state are lent and changed where they lie, the numbers go by value. A refusal leaves every stored number as it was.
 // Each contract is an equation with a rule of crates/rules/specs through crates/state/specs/Stored.antt; the rule is named above the function.
 ghost use Rattle.std.specs.Prelude.{◌≡◌, true, ◌*◌, leb, eqb, nat_abs};
-ghost use Rattle.rules.specs.Registers.{inMap, written, settingsFrom};
-ghost use Rattle.rules.specs.Settings.{delay, delayTicks};
+ghost use Rattle.rules.specs.Registers.{in_map, written, settings_from};
+ghost use Rattle.rules.specs.Settings.{delay, delay_ticks};
 ghost use Rattle.rules.specs.Words.{if◌then◌else◌};
 ghost use Rattle.rules.specs.Events as events;
-ghost use Rattle.rules.specs.Events.{halfPpm, sampleLimit};
-ghost use Rattle.rules.specs.Run.{afterWrite};
+ghost use Rattle.rules.specs.Events.{half_ppm, sample_limit};
+ghost use Rattle.rules.specs.Run.{after_write};
 ghost use Rattle.selection.specs.Bridge.{Follows};
 ghost use Rattle.state.specs.Lent.{wholly};
-ghost use Rattle.state.specs.Stored.{Stored, meaning, withCore, withTally, withFrequency, withSoak, withRegisters, withBackup};
+ghost use Rattle.state.specs.Stored.{Stored, meaning, with_core, with_tally, with_frequency, with_soak, with_registers, with_backup};
 ghost use Rattle.tick.specs.Lent.{across, Handed};
-ghost use Rattle.unit.specs.Events.{eventOf};
+ghost use Rattle.unit.specs.Events.{event_of};
 ghost use Rattle.unit.specs.Given.{Gives};
 ghost use Rattle.unit.specs.Lent.{entering, leaving};
 
@@ -47,7 +47,7 @@ pub struct Stepped {
 
 // Refusal 7: "sample out of range".
 fn in_range(x: i32) -> bool
-    ensures { result ≡ leb (nat_abs x) sampleLimit }
+    ensures { result ≡ leb (nat_abs x) sample_limit }
 {
     if x < -125_000_000 {
         return false;
@@ -78,7 +78,7 @@ fn on_tick(
     sums: &mut Sums,
     building: &mut Sums,
 ) -> Stepped
-    ensures { across level decay activity frequency remainder soak regs windows sums building (λ before after. (s : Stored) → Handed sizes highs lows lasts regs keys handed s → Gives (before k s) (events.tickWith mask lock x) result.refusal (after result.core s)) }
+    ensures { across level decay activity frequency remainder soak regs windows sums building (λ before after. (s : Stored) → Handed sizes highs lows lasts regs keys handed s → Gives (before k s) (events.tick_with mask lock x) result.refusal (after result.core s)) }
 {
     let ok = in_range(x);
     if ok {
@@ -99,14 +99,14 @@ fn on_tick(
 
 // A limit in steps of 1/64 ppm: "the limits are compared as 32 times theirs".
 fn in_steps(limit: u8) -> u16
-    ensures { result ≡ halfPpm * limit }
+    ensures { result ≡ half_ppm * limit }
 {
     32 * wide16(limit)
 }
 
 // A measurement, or refusal 6: "input not 1 to 8".
 fn on_measurement(i: u8, offset: i16, frequency: &mut Row, regs: &Registers) -> u8
-    ensures { (s : Stored) → Gives (withRegisters regs.now (withFrequency frequency.old s)) (events.measurement i offset) result (withRegisters regs.now (withFrequency frequency.new s)) }
+    ensures { (s : Stored) → Gives (with_registers regs.now (with_frequency frequency.old s)) (events.measurement i offset) result (with_registers regs.now (with_frequency frequency.new s)) }
 {
     let ok = is_input(wide32(i));
     if ok {
@@ -120,7 +120,7 @@ fn on_measurement(i: u8, offset: i16, frequency: &mut Row, regs: &Registers) -> 
 
 // A Hit, or refusal 5: "Hit with no reference 1 to 8 selected".
 fn on_hit(k: Core, soak: &mut Row) -> Stepped
-    ensures { (s : Stored) → Gives (withCore k (withSoak soak.old s)) events.hit result.refusal (withCore result.core (withSoak soak.new s)) }
+    ensures { (s : Stored) → Gives (with_core k (with_soak soak.old s)) events.hit result.refusal (with_core result.core (with_soak soak.new s)) }
 {
     let ok = is_tracked(k.choice.selected);
     if ok {
@@ -144,7 +144,7 @@ fn on_hit(k: Core, soak: &mut Row) -> Stepped
     }
 }
 
-// The rule `afterWrite`: 0x26 is a command to the history, any other register of the map a setting.
+// The rule `after_write`: 0x26 is a command to the history, any other register of the map a setting.
 fn write_accepted(
     a: u8,
     v: u8,
@@ -154,8 +154,8 @@ fn write_accepted(
     building: &mut Sums,
     backup: &mut Sums,
 ) -> Tally
-    ensures s_value { (s : Stored) → inMap a ≡ true → meaning (withTally result (leaving regs sums building backup s)) ≡ afterWrite a v (meaning (withTally t (entering regs sums building backup s))) }
-    ensures regs_after { inMap a ≡ true → settingsFrom regs.new ≡ (if eqb a 0x26 then settingsFrom regs.old else written a v (settingsFrom regs.old)) }
+    ensures s_value { (s : Stored) → in_map a ≡ true → meaning (with_tally result (leaving regs sums building backup s)) ≡ after_write a v (meaning (with_tally t (entering regs sums building backup s))) }
+    ensures regs_after { in_map a ≡ true → settings_from regs.new ≡ (if eqb a 0x26 then settings_from regs.old else written a v (settings_from regs.old)) }
 {
     if a == 0x26 {
         return history::commanded(v, t, sums, building, backup);
@@ -166,7 +166,7 @@ fn write_accepted(
 
 // The floor of the delay that is handed on after a write at a: the delay itself, looked up, if that is 0x43.
 fn delay_after(a: u8, regs: &Registers, handed: u32) -> u32
-    ensures { result ≡ (if eqb a 0x43 then delayTicks (delay (settingsFrom regs.now)) else handed) }
+    ensures { result ≡ (if eqb a 0x43 then delay_ticks (delay (settings_from regs.now)) else handed) }
 {
     if a == 0x43 {
         return waits::delay_ticks(registers::setting(regs, 0x43));
@@ -187,8 +187,8 @@ pub fn write(
     building: &mut Sums,
     backup: &mut Sums,
 ) -> Stepped
-    ensures gives { (s : Stored) → Gives (withCore k (entering regs sums building backup s)) (events.write a v) result.refusal (withCore result.core (leaving regs sums building backup s)) }
-    ensures follows { Follows (settingsFrom regs.old) keys.old handed.old → Follows (settingsFrom regs.new) keys.new handed.new }
+    ensures gives { (s : Stored) → Gives (with_core k (entering regs sums building backup s)) (events.write a v) result.refusal (with_core result.core (leaving regs sums building backup s)) }
+    ensures follows { Follows (settings_from regs.old) keys.old handed.old → Follows (settings_from regs.new) keys.new handed.new }
 {
     let number = writes::write_refusal(
         regs,
@@ -241,8 +241,8 @@ pub fn step(
     building: &mut Sums,
     backup: &mut Sums,
 ) -> Stepped
-    ensures across { across level decay activity frequency remainder soak regs windows sums building (λ before after. (s : Stored) → Handed sizes highs lows lasts regs keys handed.old s → Gives (before k (withBackup backup.old s)) (eventOf e) result.refusal (after result.core (withBackup backup.new s))) }
-    ensures follows { Follows (settingsFrom regs.old) keys.old handed.old → Follows (settingsFrom regs.new) keys.new handed.new }
+    ensures across { across level decay activity frequency remainder soak regs windows sums building (λ before after. (s : Stored) → Handed sizes highs lows lasts regs keys handed.old s → Gives (before k (with_backup backup.old s)) (event_of e) result.refusal (after result.core (with_backup backup.new s))) }
+    ensures follows { Follows (settings_from regs.old) keys.old handed.old → Follows (settings_from regs.new) keys.new handed.new }
 {
     match e {
         Event::Tick(mask, lock, x) => on_tick(
@@ -291,7 +291,7 @@ pub fn handle(
     windows: &Windows,
     regs: &mut Registers,
 ) -> Stepped
-    ensures { wholly level decay activity frequency remainder soak sets assigned sums building backup windows regs (λ before after. Gives (before k) (eventOf e) result.refusal (after result.core)) }
+    ensures { wholly level decay activity frequency remainder soak sets assigned sums building backup windows regs (λ before after. Gives (before k) (event_of e) result.refusal (after result.core)) }
 {
     match e {
         Event::Tick(mask, lock, x) => {

@@ -4,7 +4,7 @@ ghost use Rattle.std.specs.Prelude.{◌≡◌, List, ◌/◌, ◌^◌, ◌<◌, 
 ghost use Rattle.std.specs.Int.Signed.{shr_z};
 ghost use Rattle.rules.specs.History.{sum_of, value};
 ghost use Rattle.rules.specs.Reading.{twos};
-ghost use Rattle.history.specs.Bridge.{keptOf, historyOf};
+ghost use Rattle.history.specs.Bridge.{kept_of, history_of};
 ghost use Rattle.value.specs.Signed.{by_sign};
 
 use arith::{least, wide16};
@@ -81,7 +81,7 @@ pub fn twos(z: i64) -> u32
 
 // `sum_of` the block sums in use.
 fn total(sums: &Sums, count: u16) -> i64
-    ensures { result ≡ sum_of (keptOf sums.now count) }
+    ensures { result ≡ sum_of (kept_of sums.now count) }
 {
     let n = least(count, 64) as usize;
     let mut s: i64 = 0;
@@ -96,7 +96,7 @@ fn total(sums: &Sums, count: u16) -> i64
 // `value`: the greatest whole number not above the mean of the kept samples; 0 where no block is kept.
 // Not: 127 samples a block; one sum less.
 pub fn value(t: Tally, sums: &Sums) -> i64
-    ensures { (building backup : List ℤ) → result ≡ value (historyOf t sums.now building backup) }
+    ensures { (building backup : List ℤ) → result ≡ value (history_of t sums.now building backup) }
 {
     let count = wide16(t.count);
     let n = least(count, 64) as u64;

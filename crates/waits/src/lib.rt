@@ -1,8 +1,8 @@
 // The reversion delay in ticks (document 02, #103: "a table of 256 numbers, one for each delay in minutes"). The compiler builds a constant array anew on the
 // stack for each use, so the ticks are handed a floor of the delay, a number that is not above it, and look the delay up where a wait is over by the floor.
 ghost use Rattle.std.specs.Prelude.{◌≡◌};
-ghost use Rattle.rules.specs.Settings.{delayTicks};
-ghost use Rattle.waits.specs.Floor.{delayFloor};
+ghost use Rattle.rules.specs.Settings.{delay_ticks};
+ghost use Rattle.waits.specs.Floor.{delay_floor};
 
 // The table: entry m has the ticks of m minutes.
 const WAITS: [u32; 256] = [
@@ -28,19 +28,19 @@ const WAITS: [u32; 256] = [
     116250, 116719, 117188, 117657, 118125, 118594, 119063, 119532,
 ];
 
-// The rule `delayTicks`: a delay in minutes, in ticks.
+// The rule `delay_ticks`: a delay in minutes, in ticks.
 // Not: 468 ticks for each minute; the entry of a minute less.
 pub fn delay_ticks(minutes: u8) -> u32
-    ensures { result ≡ delayTicks minutes }
+    ensures { result ≡ delay_ticks minutes }
 {
     let m = minutes as usize;
     WAITS[m]
 }
 
-// A floor of the delay, made without the table: not above it by `floor-le` in proofs/Floor.
+// A floor of the delay, made without the table: not above it by `floor_le` in proofs/Floor.
 // Not: always 0; the delay itself.
 pub fn delay_floor(minutes: u8) -> u32
-    ensures { result ≡ delayFloor minutes }
+    ensures { result ≡ delay_floor minutes }
 {
     468 * minutes as u32
 }

@@ -2,7 +2,7 @@
 use Rattle.std.specs.Prelude.{ℕ, zero, suc, ◌*◌, List, [], ◌∷◌, ltb, get_or}
 use Rattle.rules.specs.Words.{if◌then◌else◌}
 use Rattle.rules.specs.Week as rules
-use Rattle.rules.specs.Week.{Window, windowsFrom}
+use Rattle.rules.specs.Week.{Window, windows_from}
 
 -- those whose start is before their end: a stored pair of which that is not so is no window
 unfoldable pub standing : List Window → List Window
@@ -10,11 +10,11 @@ standing [] = []
 standing (w ∷ ws) = if ltb w.start w.end then w ∷ standing ws else standing ws
 
 -- the windows that sixteen stored numbers are
-abbrev pub windowsOf : List ℕ → List Window
-windowsOf numbers = standing (windowsFrom 8 0 numbers)
+abbrev pub windows_of : List ℕ → List Window
+windows_of numbers = standing (windows_from 8 0 numbers)
 
-abbrev pub weekOf : ℕ → List ℕ → rules.Week
-weekOf place numbers = record { place = place; windows = windowsOf numbers }
+abbrev pub week_of : ℕ → List ℕ → rules.Week
+week_of place numbers = record { place = place; windows = windows_of numbers }
 
 -- ---- what is stored of a call's windows
 
@@ -28,5 +28,5 @@ abbrev pub kept_at : ℕ → List ℕ → ℕ → ℕ
 kept_at n numbers k = if ltb k n then get_or numbers k 0 else 0
 
 -- the first `count` windows' numbers, and 0 for each other of the sixteen
-abbrev pub keptNumbers : ℕ → List ℕ → List ℕ
-keptNumbers count numbers = listed 16 (kept_at (2 * count) numbers)
+abbrev pub kept_numbers : ℕ → List ℕ → List ℕ
+kept_numbers count numbers = listed 16 (kept_at (2 * count) numbers)

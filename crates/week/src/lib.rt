@@ -3,9 +3,9 @@
 ghost use Rattle.std.specs.Prelude.{◌≡◌, ◌&&◌, [], ◌+◌, ◌≤◌, leb, ltb};
 ghost use Rattle.rules.specs.Words.{if◌then◌else◌};
 ghost use Rattle.rules.specs.Week as rules;
-ghost use Rattle.rules.specs.Week.{weekTicks, ascending, startsWeek, endsWeek, firstWindows};
-ghost use Rattle.rules.specs.Refusals.{weekRefusal, windowsRefusal};
-ghost use Rattle.week.specs.Bridge.{windowsOf, keptNumbers};
+ghost use Rattle.rules.specs.Week.{week_ticks, ascending, starts_week, ends_week, first_windows};
+ghost use Rattle.rules.specs.Refusals.{week_refusal, windows_refusal};
+ghost use Rattle.week.specs.Bridge.{windows_of, kept_numbers};
 
 use arith::{both, one_of, wide64};
 
@@ -18,7 +18,7 @@ pub type Windows = [u32; 16];
 // "with no windows"
 // Not: a window of the week's first tick; a window of the whole week.
 pub fn no_windows() -> Windows
-    ensures { windowsOf result ≡ [] }
+    ensures { windows_of result ≡ [] }
 {
     [0; 16]
 }
@@ -35,7 +35,7 @@ fn in_window(start: u32, end: u32, place: u32) -> bool
 // The rule `busy`: the place lies in one of the windows.
 // Not: a window's end blocks too; the eighth window left out.
 pub fn is_busy(windows: &Windows, place: u32) -> bool
-    ensures { result ≡ rules.busy (windowsOf windows.now) place }
+    ensures { result ≡ rules.busy (windows_of windows.now) place }
 {
     let w = *windows;
     one_of(
@@ -75,14 +75,14 @@ pub fn advanced(place: u32) -> u32
 // 16 for a place of 4,725,000 or more, else 0.
 // Not: 4,725,000 passes; 4,724,999 does not.
 pub fn week_refusal(place: u32) -> u8
-    ensures { result ≡ weekRefusal place }
+    ensures { result ≡ week_refusal place }
 {
     if place < WEEK { 0 } else { 16 }
 }
 
 // A window that starts at `from` or later and lies in the week.
 fn follows(from: u32, start: u32, end: u32) -> bool
-    ensures { result ≡ (leb from start && (ltb start end && leb end weekTicks)) }
+    ensures { result ≡ (leb from start && (ltb start end && leb end week_ticks)) }
 {
     both(from <= start, both(start < end, end <= WEEK))
 }
@@ -90,7 +90,7 @@ fn follows(from: u32, start: u32, end: u32) -> bool
 // The rule `ascending` of the first `count` windows: each is one of the week and starts after the end of the one before it.
 fn ascends(count: u8, windows: &Windows) -> bool
     requires { count ≤ 8 }
-    ensures { result ≡ ascending 0 (firstWindows count windows.now) }
+    ensures { result ≡ ascending 0 (first_windows count windows.now) }
 {
     let n = wide64(count);
     let mut from = 0;
@@ -107,7 +107,7 @@ fn ascends(count: u8, windows: &Windows) -> bool
 // "first at 0 with last ending the week"
 fn meets_itself(count: u8, windows: &Windows) -> bool
     requires { count ≤ 8 }
-    ensures { result ≡ (startsWeek (firstWindows count windows.now) && endsWeek (firstWindows count windows.now)) }
+    ensures { result ≡ (starts_week (first_windows count windows.now) && ends_week (first_windows count windows.now)) }
 {
     let n = wide64(count);
     if n == 0 {
@@ -119,7 +119,7 @@ fn meets_itself(count: u8, windows: &Windows) -> bool
 // 16 for windows that the check does not let through, else 0.
 // Not: nine windows pass; the numbers after the first `count` windows are looked at.
 pub fn windows_refusal(count: u8, windows: &Windows) -> u8
-    ensures { result ≡ windowsRefusal (firstWindows count windows.now) }
+    ensures { result ≡ windows_refusal (first_windows count windows.now) }
 {
     if count > 8 {
         return 16;
@@ -142,10 +142,10 @@ fn if_kept(keep: bool, x: u32) -> u32
     if keep { x } else { 0 }
 }
 
-// The first `count` windows, and 0 and 0 for the others: those that the check lets through are stored whole (`stored-windows` in proofs/Storing).
+// The first `count` windows, and 0 and 0 for the others: those that the check lets through are stored whole (`stored_windows` in proofs/Storing).
 // Not: all sixteen numbers kept; the last window lost.
 pub fn kept(count: u8, windows: &Windows) -> Windows
-    ensures { result ≡ keptNumbers count windows.now }
+    ensures { result ≡ kept_numbers count windows.now }
 {
     let n = 2 * wide64(count);
     let mut stored = [0u32; 16];

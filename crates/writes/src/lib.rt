@@ -2,8 +2,8 @@
 ghost use Rattle.std.specs.Prelude.{◌≡◌, ◌&&◌, ◌+◌, leb, eqb};
 ghost use Rattle.rules.specs.Words.{if◌then◌else◌};
 ghost use Rattle.rules.specs.Registers as rules;
-ghost use Rattle.rules.specs.Registers.{settingsFrom};
-ghost use Rattle.rules.specs.Refusals.{limitsRefused, commandRefused, writeRefusal};
+ghost use Rattle.rules.specs.Registers.{settings_from};
+ghost use Rattle.rules.specs.Refusals.{limits_refused, command_refused, write_refusal};
 
 use registers::{REGISTERS, Registers, bytes, in_map, register_at, setting, slot};
 
@@ -18,7 +18,7 @@ fn stored(a: u8, v: u8) -> u8
 // Of an address that is not in the map nothing is stored.
 // Not: bit 4 of an input's register stored; the value stored beside its place.
 pub fn written(regs: &mut Registers, a: u8, v: u8)
-    ensures { settingsFrom regs.new ≡ (if rules.inMap a then rules.written a v (settingsFrom regs.old) else settingsFrom regs.old) }
+    ensures { settings_from regs.new ≡ (if rules.in_map a then rules.written a v (settings_from regs.old) else settings_from regs.old) }
 {
     let k = slot(a);
     if k < REGISTERS {
@@ -37,7 +37,7 @@ pub fn limits_apart(reject: u8, qualification: u8) -> bool
 
 // 4: "reject − qualification would be under 6".
 fn limits_refused(regs: &Registers, a: u8, v: u8) -> bool
-    ensures { result ≡ limitsRefused (settingsFrom regs.now) a v }
+    ensures { result ≡ limits_refused (settings_from regs.now) a v }
 {
     if a == 0x44 {
         return !limits_apart(v, setting(regs, 0x45));
@@ -50,7 +50,7 @@ fn limits_refused(regs: &Registers, a: u8, v: u8) -> bool
 
 // 8: "command 1 unless Ready, command 2 without backup".
 fn command_refused(ready: bool, held: bool, a: u8, v: u8) -> bool
-    ensures { result ≡ (eqb a 0x26 && commandRefused ready held v) }
+    ensures { result ≡ (eqb a 0x26 && command_refused ready held v) }
 {
     if a == 0x26 {
         if v == 1 {
@@ -88,7 +88,7 @@ fn first_refusal(outside: bool, readonly: bool, above: bool, limits: bool, comma
 // What a write is turned down with, the first of 1, 2, 3, 4 and 8 that fits, or 0.
 // Not: 2 for a value above Largest; limits 5 apart pass; command 2 by Ready.
 pub fn write_refusal(regs: &Registers, a: u8, v: u8, ready: bool, held: bool) -> u8
-    ensures { result ≡ writeRefusal (settingsFrom regs.now) ready held a v }
+    ensures { result ≡ write_refusal (settings_from regs.now) ready held a v }
 {
     let register = register_at(a);
     first_refusal(

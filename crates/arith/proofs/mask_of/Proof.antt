@@ -4,12 +4,12 @@ use mathlib.Core.Path.{sym, ◌∙◌}
 use native.Mathlib.Nat.{add-zero}
 use borrow.Author.Rules.{rules}
 use Rattle.rules.specs.Words.{if◌then◌else◌}
-use Rattle.rules.specs.Reading.{maskUpTo}
+use Rattle.rules.specs.Reading.{mask_up_to}
 use Rattle.arith.proofs.mask_of.Statement.{statement}
 use Rattle.arith.proofs.mask_of.Tie as tie
 
 returns : tie.Need-returns
-unfolding maskUpTo
+unfolding mask_up_to
 returns c =
     let b = c.before in
     let d = b.before in
@@ -21,8 +21,8 @@ returns c =
     λ i. h.before.weigh16.ensures.0 i + (h.weigh162.ensures.0 i + (g.weigh163.ensures.0 i + (f.weigh164.ensures.0 i
     + (e.weigh165.ensures.0 i + (d.weigh166.ensures.0 i + (b.weigh167.ensures.0 i + last i))))))
 
-pub mask-of-spec : {M : Type 1} → statement M
-mask-of-spec =
+pub mask_of_spec : {M : Type 1} → statement M
+mask_of_spec =
     tie.close
     (tie.spec
     (λ c κs. tt)

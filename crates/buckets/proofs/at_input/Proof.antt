@@ -16,8 +16,8 @@ returns c =
     ∷ c.either8.ensures i
     ∷ []
 
-pub at-input-spec : {M : Type 1} → statement M
-at-input-spec =
+pub at_input_spec : {M : Type 1} → statement M
+at_input_spec =
     tie.close
     (tie.spec
     (search rules)

@@ -6,8 +6,8 @@ use Rattle.buckets.proofs.bytes_of.Tie as tie
 returns : tie.Need-returns
 returns c = cc
 
-pub bytes-of-spec : {M : Type 1} → statement M
-bytes-of-spec =
+pub bytes_of_spec : {M : Type 1} → statement M
+bytes_of_spec =
     tie.close
     (tie.spec
     (search rules)

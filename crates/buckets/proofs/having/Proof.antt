@@ -25,8 +25,8 @@ returns c =
     ∷ [])
     ∙ (λ i. eight (λ k. if eqb (get_or rows.t1 k 0 % 4) (start.wide16.ensures.0 i) then 1 else 0))
 
-pub having-spec : {M : Type 1} → statement M
-having-spec =
+pub having_spec : {M : Type 1} → statement M
+having_spec =
     tie.close
     (tie.spec
     (λ c κs. tt)

@@ -19,5 +19,5 @@ returns-4 c =
     let most : min c.before.before.before.args.d 3 ≡ 3 = omega (arith, c.before.before.if1.false, c.before.if2.false, c.if3.false) in
     (rw most refl, omega arith)
 
-pub last-of-spec : {M : Type 1} → statement M
-last-of-spec = tie.close (tie.spec returns returns-2 returns-3 returns-4)
+pub last_of_spec : {M : Type 1} → statement M
+last_of_spec = tie.close (tie.spec returns returns-2 returns-3 returns-4)

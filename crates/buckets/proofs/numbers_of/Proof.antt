@@ -5,7 +5,7 @@ use mathlib.Core.List.{List}
 use native.Mathlib.Nat.{div-div-eq-div-mul}
 use native.Mathlib.Omega.{arith}
 use lib.ListN.{get_or}
-use Rattle.buckets.specs.Bridge.{eight, byte_of, word_of, numbers, numbersOf}
+use Rattle.buckets.specs.Bridge.{eight, byte_of, word_of, numbers, numbers_of}
 use Rattle.buckets.proofs.numbers_of.Statement.{statement}
 use Rattle.buckets.proofs.numbers_of.Tie as tie
 
@@ -19,7 +19,7 @@ high_byte w unit =
     byte ∙ ap (λ (q : ℕ). q % 256) (div-div-eq-div-mul w unit 256)
 
 returns : tie.Need-returns
-unfolding numbersOf
+unfolding numbers_of
 returns c =
     let third = c.before in
     let second = third.before in
@@ -36,8 +36,8 @@ returns c =
     ∙ (λ i. numbers (eight (λ k. low_byte (word k) 1 i)) (eight (λ k. high_byte (word k) 1 i)) (eight (λ k. low_byte (word k) 65_536 i))
     (eight (λ k. high_byte (word k) 65_536 i)))
 
-pub numbers-of-spec : {M : Type 1} → statement M
-numbers-of-spec =
+pub numbers_of_spec : {M : Type 1} → statement M
+numbers_of_spec =
     tie.close
     (tie.spec
     (λ c κs. omega arith)

@@ -27,5 +27,5 @@ returns c =
     ∙ (λ i. if eqb (x.n % 4) 1 then x.b else (if eqb (x.n % 4) 2 then x.c else first.either.ensures i))
     ∙ by_tests x.a x.b x.c x.d (x.n % 4) (mod-lt x.n (omega arith))
 
-pub of-set-spec : {M : Type 1} → statement M
-of-set-spec = tie.close (tie.spec (λ c κs. tt) (λ c κs. tt) (λ c κs. tt) returns)
+pub of_set_spec : {M : Type 1} → statement M
+of_set_spec = tie.close (tie.spec (λ c κs. tt) (λ c κs. tt) (λ c κs. tt) returns)

@@ -16,8 +16,8 @@ returns c =
     ∷ c.of-set8.ensures i
     ∷ []
 
-pub of-sets-spec : {M : Type 1} → statement M
-of-sets-spec =
+pub of_sets_spec : {M : Type 1} → statement M
+of_sets_spec =
     tie.close
     (tie.spec
     (search rules)

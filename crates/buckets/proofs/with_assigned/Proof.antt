@@ -5,5 +5,5 @@ use Rattle.buckets.proofs.with_assigned.Tie as tie
 returns : tie.Need-returns
 returns c = cc
 
-pub with-assigned-spec : {M : Type 1} → statement M
-with-assigned-spec = tie.close (tie.spec (λ c κs. tt) (λ c κs. tt) returns)
+pub with_assigned_spec : {M : Type 1} → statement M
+with_assigned_spec = tie.close (tie.spec (λ c κs. tt) (λ c κs. tt) returns)

@@ -5,5 +5,5 @@ use Rattle.buckets.proofs.with_set.Tie as tie
 returns : tie.Need-returns
 returns c = cc
 
-pub with-set-spec : {M : Type 1} → statement M
-with-set-spec = tie.close (tie.spec (λ c κs. tt) (λ c κs. tt) returns)
+pub with_set_spec : {M : Type 1} → statement M
+with_set_spec = tie.close (tie.spec (λ c κs. tt) (λ c κs. tt) returns)

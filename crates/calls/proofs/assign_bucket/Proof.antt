@@ -4,18 +4,18 @@ use mathlib.Core.Path.{◌≡◌, refl, ap, sym, ◌∙◌}
 use native.Mathlib.Omega.{arith}
 use lib.Dec.{eqb}
 use lib.ListN.{get_or}
-use Rattle.rules.specs.Events.{assignBucket}
-use Rattle.rules.specs.State.{withInputs, withBuckets}
+use Rattle.rules.specs.Events.{assign_bucket}
+use Rattle.rules.specs.State.{with_inputs, with_buckets}
 use Rattle.rules.specs.Monitors.{Bucket}
-use Rattle.rules.specs.Buckets.{putAtSize, set_at}
+use Rattle.rules.specs.Buckets.{put_at_size, set_at}
 use Rattle.rules.specs.Refusals.{refusal}
-use Rattle.rules.specs.Run.{afterAssign, effect}
-use Rattle.rules.specs.Inputs.{eachFrom}
-use Rattle.rules.proofs.SoundBuckets.{assign-allowed}
-use Rattle.buckets.specs.Bridge.{bucketsOf}
-use Rattle.buckets.proofs.Sets.{set-at, assigned-anew}
-use Rattle.inputs.specs.Bridge.{is_set, inputsOf, withActivity}
-use Rattle.state.specs.Stored.{Stored, meaning, withRows, withSets}
+use Rattle.rules.specs.Run.{after_assign, effect}
+use Rattle.rules.specs.Inputs.{each_from}
+use Rattle.rules.proofs.SoundBuckets.{assign_allowed}
+use Rattle.buckets.specs.Bridge.{buckets_of}
+use Rattle.buckets.proofs.Sets.{set_at, assigned_anew}
+use Rattle.inputs.specs.Bridge.{is_set, inputs_of, with_activity}
+use Rattle.state.specs.Stored.{Stored, meaning, with_rows, with_sets}
 use Rattle.unit.proofs.Given.{accepted, turned_down}
 use Rattle.calls.proofs.Concerned.{concerned}
 use Rattle.calls.proofs.assign_bucket.Statement.{statement}
@@ -25,11 +25,11 @@ use Rattle.calls.proofs.assign_bucket.Tie as tie
 abbrev found : tie.Start → Stored → Stored
 found c s =
     let a = c.args in
-    withSets (record { sets = a.sets.now; assigned = a.assigned.now })
-    (withRows (withActivity s.monitors a.level.now a.decay.now a.activity.now) s)
+    with_sets (record { sets = a.sets.now; assigned = a.assigned.now })
+    (with_rows (with_activity s.monitors a.level.now a.decay.now a.activity.now) s)
 
 returns : tie.Need-returns
-unfolding refusal effect afterAssign putAtSize eachFrom inputsOf
+unfolding refusal effect after_assign put_at_size each_from inputs_of
 returns c = λ s.
     let sets = c.before.before.before.before.before in
     let sized = sets.before in
@@ -40,23 +40,23 @@ returns c = λ s.
     let u = found numbered.before s in
     let b = u.buckets in
     let number = numbered.assign-refusal.ensures in
-    let ok = assign-allowed a.i a.n (sym number ∙ tested.if1.true) in
+    let ok = assign_allowed a.i a.n (sym number ∙ tested.if1.true) in
     let low : a.n % 4 ≡ a.n = omega (arith, ok.1) in
     let size = sized.type_size.ensures
-    ∙ ap (λ (x : Bucket). x.size) (set-at b a.n)
-    ∙ ap (λ (n : ℕ). (set_at (bucketsOf b) n).size) low in
+    ∙ ap (λ (x : Bucket). x.size) (set_at b a.n)
+    ∙ ap (λ (n : ℕ). (set_at (buckets_of b) n).size) low in
     let put = c.put-at-size.ensures s.monitors
-    ∙ (λ i. putAtSize (λ j. is_set (get_or (chosen.at-input.ensures i) (j - 1) 0)) (size i) (inputsOf u.monitors))
-    ∙ concerned u.monitors (set_at (bucketsOf b) a.n).size (λ k. eqb a.i (k + 1)) in
-    let anew = (λ i. bucketsOf (record { sets = a.sets.now; assigned = (sets.with-assigned.ensures i).assigned }))
-    ∙ assigned-anew b a.i a.n ok.0 ok.1 in
-    accepted u _ (assignBucket a.i a.n) (sym tested.if1.true ∙ number) refl (λ i. withBuckets (anew i) (withInputs (put i) (meaning u)))
+    ∙ (λ i. put_at_size (λ j. is_set (get_or (chosen.at-input.ensures i) (j - 1) 0)) (size i) (inputs_of u.monitors))
+    ∙ concerned u.monitors (set_at (buckets_of b) a.n).size (λ k. eqb a.i (k + 1)) in
+    let anew = (λ i. buckets_of (record { sets = a.sets.now; assigned = (sets.with-assigned.ensures i).assigned }))
+    ∙ assigned_anew b a.i a.n ok.0 ok.1 in
+    accepted u _ (assign_bucket a.i a.n) (sym tested.if1.true ∙ number) refl (λ i. with_buckets (anew i) (with_inputs (put i) (meaning u)))
 
 returns-2 : tie.Need-returns-2
 unfolding refusal
 returns-2 c = λ s.
     let a = c.before.before.args in
-    turned_down (found c.before.before s) (assignBucket a.i a.n) c.before.assign-refusal.ensures c.if1.false
+    turned_down (found c.before.before s) (assign_bucket a.i a.n) c.before.assign-refusal.ensures c.if1.false
 
-pub assign-bucket-spec : {M : Type 1} → statement M
-assign-bucket-spec = tie.close (tie.spec (λ c κs. tt) (λ c κs. tt) (λ c κs. tt) (λ c κs. tt) (λ c κs. tt) returns returns-2)
+pub assign_bucket_spec : {M : Type 1} → statement M
+assign_bucket_spec = tie.close (tie.spec (λ c κs. tt) (λ c κs. tt) (λ c κs. tt) (λ c κs. tt) (λ c κs. tt) returns returns-2)

@@ -3,17 +3,17 @@ use Prim.Native.Nat.{◌-◌, ◌%◌}
 use mathlib.Core.Path.{refl, sym, ◌∙◌}
 use lib.Dec.{eqb}
 use lib.ListN.{get_or}
-use Rattle.rules.specs.Events.{setBucket}
-use Rattle.rules.specs.State.{withInputs, withBuckets}
-use Rattle.rules.specs.Buckets.{bucketFrom, putAtSize}
+use Rattle.rules.specs.Events.{set_bucket}
+use Rattle.rules.specs.State.{with_inputs, with_buckets}
+use Rattle.rules.specs.Buckets.{bucket_from, put_at_size}
 use Rattle.rules.specs.Refusals.{refusal}
-use Rattle.rules.specs.Run.{afterSet, effect}
-use Rattle.rules.specs.Inputs.{eachFrom}
-use Rattle.rules.proofs.SoundBuckets.{set-allowed}
-use Rattle.buckets.specs.Bridge.{bucketsOf}
+use Rattle.rules.specs.Run.{after_set, effect}
+use Rattle.rules.specs.Inputs.{each_from}
+use Rattle.rules.proofs.SoundBuckets.{set_allowed}
+use Rattle.buckets.specs.Bridge.{buckets_of}
 use Rattle.buckets.proofs.Sets.{set-anew}
-use Rattle.inputs.specs.Bridge.{is_set, inputsOf, withActivity}
-use Rattle.state.specs.Stored.{Stored, meaning, withRows, withSets}
+use Rattle.inputs.specs.Bridge.{is_set, inputs_of, with_activity}
+use Rattle.state.specs.Stored.{Stored, meaning, with_rows, with_sets}
 use Rattle.unit.proofs.Given.{accepted, turned_down}
 use Rattle.calls.proofs.Concerned.{concerned}
 use Rattle.calls.proofs.set_bucket.Statement.{statement}
@@ -23,11 +23,11 @@ use Rattle.calls.proofs.set_bucket.Tie as tie
 abbrev found : tie.Start → Stored → Stored
 found c s =
     let a = c.args in
-    withSets (record { sets = a.sets.now; assigned = a.assigned.now })
-    (withRows (withActivity s.monitors a.level.now a.decay.now a.activity.now) s)
+    with_sets (record { sets = a.sets.now; assigned = a.assigned.now })
+    (with_rows (with_activity s.monitors a.level.now a.decay.now a.activity.now) s)
 
 returns : tie.Need-returns
-unfolding refusal effect afterSet bucketFrom putAtSize eachFrom inputsOf bucketsOf
+unfolding refusal effect after_set bucket_from put_at_size each_from inputs_of buckets_of
 returns c = λ s.
     let wide = c.before in
     let sets = wide.before.before.before.before.before in
@@ -38,20 +38,20 @@ returns c = λ s.
     let a = start.args in
     let u = found start s in
     let number = numbered.set-refusal.ensures in
-    let ok = set-allowed a.n a.size a.high a.low a.d (sym number ∙ tested.if1.true) in
+    let ok = set_allowed a.n a.size a.high a.low a.d (sym number ∙ tested.if1.true) in
     let put = c.put-at-size.ensures s.monitors
-    ∙ (λ i. putAtSize (λ j. is_set (get_or (having.having.ensures i) (j - 1) 0)) (wide.wide16.ensures.0 i) (inputsOf u.monitors))
+    ∙ (λ i. put_at_size (λ j. is_set (get_or (having.having.ensures i) (j - 1) 0)) (wide.wide16.ensures.0 i) (inputs_of u.monitors))
     ∙ concerned u.monitors a.size (λ k. eqb (get_or a.assigned.now k 0 % 4) a.n) in
-    let anew = (λ i. bucketsOf (record { sets = (sets.with-set.ensures i).sets; assigned = a.assigned.now }))
+    let anew = (λ i. buckets_of (record { sets = (sets.with-set.ensures i).sets; assigned = a.assigned.now }))
     ∙ set-anew u.buckets a.n a.size a.high a.low a.d ok.known start.ranges.size.fits start.ranges.high.fits start.ranges.low.fits ok.few in
-    accepted u _ (setBucket a.n a.size a.high a.low a.d) (sym tested.if1.true ∙ number) refl
-    (λ i. withBuckets (anew i) (withInputs (put i) (meaning u)))
+    accepted u _ (set_bucket a.n a.size a.high a.low a.d) (sym tested.if1.true ∙ number) refl
+    (λ i. with_buckets (anew i) (with_inputs (put i) (meaning u)))
 
 returns-2 : tie.Need-returns-2
 unfolding refusal
 returns-2 c = λ s.
     let a = c.before.before.args in
-    turned_down (found c.before.before s) (setBucket a.n a.size a.high a.low a.d) c.before.set-refusal.ensures c.if1.false
+    turned_down (found c.before.before s) (set_bucket a.n a.size a.high a.low a.d) c.before.set-refusal.ensures c.if1.false
 
-pub set-bucket-spec : {M : Type 1} → statement M
-set-bucket-spec = tie.close (tie.spec (λ c κs. tt) (λ c κs. tt) (λ c κs. tt) (λ c κs. tt) (λ c κs. tt) returns returns-2)
+pub set_bucket_spec : {M : Type 1} → statement M
+set_bucket_spec = tie.close (tie.spec (λ c κs. tt) (λ c κs. tt) (λ c κs. tt) (λ c κs. tt) (λ c κs. tt) returns returns-2)

@@ -3,10 +3,10 @@ use mathlib.Core.Path.{ap, ◌∙◌}
 use native.Mathlib.Omega.{arith}
 use lib.Count.{ones, ones-le}
 use borrow.Author.Rules.{rules}
-use Rattle.rules.specs.Registers.{settingsFrom}
+use Rattle.rules.specs.Registers.{settings_from}
 use Rattle.rules.specs.Selection.{available}
-use Rattle.inputs.specs.Bridge.{inputsOf, withSoak}
-use Rattle.candidates.proofs.Ones.{ones-mask}
+use Rattle.inputs.specs.Bridge.{inputs_of, with_soak}
+use Rattle.candidates.proofs.Ones.{ones_mask}
 use Rattle.candidates.proofs.available_count.Statement.{statement}
 use Rattle.candidates.proofs.available_count.Tie as tie
 
@@ -16,7 +16,7 @@ cast-result c = omega (arith, ones-le 8 c.available-mask.result (search rules))
 returns : tie.Need-returns
 returns c m =
     let a = c.before.args in
-    ap ones (c.available-mask.ensures m) ∙ (ones-mask (available (settingsFrom a.regs.now) (inputsOf (withSoak m a.soak.now))) 8).0
+    ap ones (c.available-mask.ensures m) ∙ (ones_mask (available (settings_from a.regs.now) (inputs_of (with_soak m a.soak.now))) 8).0
 
-pub available-count-spec : {M : Type 1} → statement M
-available-count-spec = tie.close (tie.spec (search rules) cast-result returns)
+pub available_count_spec : {M : Type 1} → statement M
+available_count_spec = tie.close (tie.spec (search rules) cast-result returns)

@@ -17,8 +17,8 @@ returns c =
     ∷ c.held8.ensures i
     ∷ [])
 
-pub held-row-spec : {M : Type 1} → statement M
-held-row-spec =
+pub held_row_spec : {M : Type 1} → statement M
+held_row_spec =
     tie.close
     (tie.spec
     (search rules)

@@ -15,5 +15,5 @@ returns-2 c = rw (c.wide32.ensures.0, le-leb _ _ c.before.before.if1.false, le-l
 returns-3 : tie.Need-returns-3
 returns-3 c = rw (le-leb _ _ c.before.if1.false, lt-leb _ _ c.if2.false)
 
-pub is-unmasked-spec : {M : Type 1} → statement M
-is-unmasked-spec = tie.close (tie.spec returns (search rules) (search rules) returns-2 returns-3)
+pub is_unmasked_spec : {M : Type 1} → statement M
+is_unmasked_spec = tie.close (tie.spec returns (search rules) (search rules) returns-2 returns-3)

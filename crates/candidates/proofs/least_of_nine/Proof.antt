@@ -23,8 +23,8 @@ returns c =
     halves (get_or k 0 0) (get_or k 1 0) (get_or k 2 0) (get_or k 3 0) (get_or k 4 0) (get_or k 5 0) (get_or k 6 0) (get_or k 7 0) in
     c.least8.ensures ∙ ap (λ x. min x ninth) (all ∙ sorted) ∙ swapped _ ninth
 
-pub least-of-nine-spec : {M : Type 1} → statement M
-least-of-nine-spec =
+pub least_of_nine_spec : {M : Type 1} → statement M
+least_of_nine_spec =
     tie.close
     (tie.spec
     (search rules)

@@ -14,5 +14,5 @@ returns-2 : tie.Need-returns-2
 unfolding digit
 returns-2 c = rw (le-ltb c.before.args.d 10 c.if1.false) refl
 
-pub digit-spec : {M : Type 1} → statement M
-digit-spec = tie.close (tie.spec (search rules) (search rules) returns returns-2)
+pub digit_spec : {M : Type 1} → statement M
+digit_spec = tie.close (tie.spec (search rules) (search rules) returns returns-2)

@@ -20,6 +20,6 @@ returns c =
     let same : byte / 16 % 16 ≡ byte / 16 = omega arith in
     rw (same, ← high.digit.ensures, ← low.digit2.ensures) (then first.put.ensures (then second.put2.ensures third.put3.ensures))
 
-pub put-hexadecimal-spec : {M : Type 1} → statement M
-put-hexadecimal-spec =
+pub put_hexadecimal_spec : {M : Type 1} → statement M
+put_hexadecimal_spec =
     tie.close (tie.spec (search rules) (search rules) (search rules) (search rules) (search rules) (search rules) returns)

@@ -1,25 +1,25 @@
 -- By the half that the byte lies in.
 use borrow.Author.Rules.{rules}
 use mir.Syntax.{w16}
-use Rattle.arith.proofs.Signed.{flip-fits}
-use Rattle.fields.proofs.Words.{old-low, old-high}
+use Rattle.arith.proofs.Signed.{flip_fits}
+use Rattle.fields.proofs.Words.{old_low, old_high}
 use Rattle.fields.proofs.old_offset.Statement.{statement}
 use Rattle.fields.proofs.old_offset.Tie as tie
 
 returns : tie.Need-returns
-returns c = old-low c.before.before.args.b c.wide16.result c.before.if1.true c.wide16.ensures.0
+returns c = old_low c.before.before.args.b c.wide16.result c.before.if1.true c.wide16.ensures.0
 
 cast-result-2 : tie.Need-overflow-cast-result-2
 cast-result-2 c = search rules
 
 sub-result : tie.Need-overflow-sub-result
-sub-result c = flip-fits w16 _ (cast-result-2 c).sfits
+sub-result c = flip_fits w16 _ (cast-result-2 c).sfits
 
 returns-2 : tie.Need-returns-2
-returns-2 c = old-high c.before.before.args.b c.wide162.result c.before.if1.false c.wide162.ensures.0
+returns-2 c = old_high c.before.before.args.b c.wide162.result c.before.if1.false c.wide162.ensures.0
 
-pub old-offset-spec : {M : Type 1} → statement M
-old-offset-spec =
+pub old_offset_spec : {M : Type 1} → statement M
+old_offset_spec =
     tie.close
     (tie.spec
     (λ c κs. search rules)

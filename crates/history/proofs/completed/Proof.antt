@@ -12,45 +12,45 @@ use mir.Val.{to_z, of_z}
 use mir.Facts.{to_z-of_z}
 use borrow.Author.Tests.{ne_eqb}
 use borrow.Author.Rules.{rules}
-use Rattle.rules.specs.History.{History, saturated, refilled, with_blocks, openEmptied, replaced}
-use Rattle.rules.proofs.Blocks.{completed-idle, completed-more, completed-full}
-use Rattle.history.specs.Bridge.{keptOf, historyOf, pushed}
-use Rattle.history.proofs.Kept.{kept-length, kept_push}
+use Rattle.rules.specs.History.{History, saturated, refilled, with_blocks, open_emptied, replaced}
+use Rattle.rules.proofs.Blocks.{completed_idle, completed_more, completed_full}
+use Rattle.history.specs.Bridge.{kept_of, history_of, pushed}
+use Rattle.history.proofs.Kept.{kept_length, kept_push}
 use Rattle.history.proofs.completed.Statement.{statement}
 use Rattle.history.proofs.completed.Tie as tie
 
 -- the history before, with any backup
 abbrev before : tie.Start → List ℤ → History
-before c backup = let a = c.args in historyOf a.t a.sums.now a.building.now backup
+before c backup = let a = c.args in history_of a.t a.sums.now a.building.now backup
 
 -- the history after its open block empties, with other building blocks
-refilled-with : (l : List ℤ) (g h : History) → g ≡ openEmptied h
-    → refilled g.kept g.builds l g.openSum g.openCount g ≡ with_blocks h.kept h.builds l h
-unfolding openEmptied with_blocks
-refilled-with l g h e = ap (λ (g : History). refilled g.kept g.builds l g.openSum g.openCount g) e
+refilled_with : (l : List ℤ) (g h : History) → g ≡ open_emptied h
+    → refilled g.kept g.builds l g.open_sum g.open_count g ≡ with_blocks h.kept h.builds l h
+unfolding open_emptied with_blocks
+refilled_with l g h e = ap (λ (g : History). refilled g.kept g.builds l g.open_sum g.open_count g) e
 
 -- the sums with the new one
 joined : (c : tie.Start) (old new : List ℤ) (count more : ℕ)
     → let x = c.args.sum in
-    new ≡ pushed (to_z w64 (of_z w64 x)) old → more ≡ min 64 (count + 1) → keptOf new more ≡ take 64 (saturated x ∷ keptOf old count)
+    new ≡ pushed (to_z w64 (of_z w64 x)) old → more ≡ min 64 (count + 1) → kept_of new more ≡ take 64 (saturated x ∷ kept_of old count)
 joined c old new count more e m =
     let x = c.args.sum in
-    ap (λ (l : List ℤ). keptOf l more) e ∙ kept_push (to_z w64 (of_z w64 x)) old count more m
-    ∙ ap (λ (z : ℤ). take 64 (saturated z ∷ keptOf old count)) (to_z-of_z c.ranges.sum)
+    ap (λ (l : List ℤ). kept_of l more) e ∙ kept_push (to_z w64 (of_z w64 x)) old count more m
+    ∙ ap (λ (z : ℤ). take 64 (saturated z ∷ kept_of old count)) (to_z-of_z c.ranges.sum)
 
 -- a history builds, and how many blocks it has with the new one
-some-builds : (c : tie.Else1) → not (eqb c.before.before.args.t.builds 0) ≡ true
-some-builds c = ap not (ne_eqb c.before.before.args.t.builds 0 c.if1.false)
+some_builds : (c : tie.Else1) → not (eqb c.before.before.args.t.builds 0) ≡ true
+some_builds c = ap not (ne_eqb c.before.before.args.t.builds 0 c.if1.false)
 
-built-length : (c : tie.Start)
+built_length : (c : tie.Start)
     → let a = c.args in
-    length (take 64 (saturated a.sum ∷ keptOf a.building.now a.t.built)) ≡ min 64 (a.t.built + 1)
-built-length c =
+    length (take 64 (saturated a.sum ∷ kept_of a.building.now a.t.built)) ≡ min 64 (a.t.built + 1)
+built_length c =
     let a = c.args in
     omega (
       arith,
-      length-take 64 (saturated a.sum ∷ keptOf a.building.now a.t.built),
-      kept-length a.building.now a.t.built,
+      length-take 64 (saturated a.sum ∷ kept_of a.building.now a.t.built),
+      kept_length a.building.now a.t.built,
     )
 
 returns : tie.Need-returns
@@ -63,7 +63,7 @@ returns c backup =
     let idle : not (eqb a.t.builds 0) ≡ false = ap (λ (n : ℕ). not (eqb n 0)) tested.if1.true in
     let more = joined p a.sums.now _ a.t.count c.before.one_more.result c.before.before.push.ensures c.before.one_more.ensures in
     c.replaced.ensures a.sums.now a.building.now _ _ backup ∙ (λ i. with_blocks (more i) (idle i) [] h)
-    ∙ sym (completed-idle (saturated a.sum) h idle)
+    ∙ sym (completed_idle (saturated a.sum) h idle)
 
 returns-2 : tie.Need-returns-2
 returns-2 c backup =
@@ -73,9 +73,9 @@ returns-2 c backup =
     let a = p.args in
     let h = before p backup in
     let more = joined p a.building.now _ a.t.built (a.t.built + 1) pushing.push2.ensures (omega arith) in
-    refilled-with _ _ h (c.before.open-emptied.ensures a.sums.now a.building.now backup)
-    ∙ (λ i. with_blocks h.kept (some-builds tested i) (more i) h)
-    ∙ sym (completed-more (saturated a.sum) h (some-builds tested) (omega (arith, built-length p)))
+    refilled_with _ _ h (c.before.open-emptied.ensures a.sums.now a.building.now backup)
+    ∙ (λ i. with_blocks h.kept (some_builds tested i) (more i) h)
+    ∙ sym (completed_more (saturated a.sum) h (some_builds tested) (omega (arith, built_length p)))
 
 returns-3 : tie.Need-returns-3
 unfolding replaced with_blocks
@@ -86,12 +86,12 @@ returns-3 c backup =
     let a = p.args in
     let h = before p backup in
     let whole = joined p a.building.now _ a.t.built c.before.one-more2.result pushing.push2.ensures c.before.one-more2.ensures in
-    ap (λ (g : History). refilled g.kept false g.building g.openSum g.openCount g) (c.replaced2.ensures a.sums.now a.building.now _ _ backup)
+    ap (λ (g : History). refilled g.kept false g.building g.open_sum g.open_count g) (c.replaced2.ensures a.sums.now a.building.now _ _ backup)
     ∙ (λ i. with_blocks (whole i) false [] h)
-    ∙ sym (completed-full (saturated a.sum) h (some-builds tested) (omega (arith, built-length p)))
+    ∙ sym (completed_full (saturated a.sum) h (some_builds tested) (omega (arith, built_length p)))
 
-pub completed-spec : {M : Type 1} → statement M
-completed-spec =
+pub completed_spec : {M : Type 1} → statement M
+completed_spec =
     tie.close
     (tie.spec
     (search rules)

@@ -6,5 +6,5 @@ use Rattle.history.proofs.holds_backup.Tie as tie
 returns : tie.Need-returns
 returns c sums building backup = held_kept backup c.before.args.t.backed
 
-pub holds-backup-spec : {M : Type 1} → statement M
-holds-backup-spec = tie.close (tie.spec returns)
+pub holds_backup_spec : {M : Type 1} → statement M
+holds_backup_spec = tie.close (tie.spec returns)

@@ -4,9 +4,9 @@ use mathlib.Core.Bool.{Bool, true, false, ◌&&◌}
 use native.Mathlib.Omega.{arith}
 use borrow.Author.Tests.{eq-eqb, ne_eqb}
 use borrow.Author.Rules.{rules}
-use Rattle.rules.specs.History.{with_blocks, startsBuilding, with_last, noted}
+use Rattle.rules.specs.History.{with_blocks, starts_building, with_last, noted}
 use Rattle.rules.proofs.Tests.{high}
-use Rattle.history.specs.Bridge.{historyOf}
+use Rattle.history.specs.Bridge.{history_of}
 use Rattle.history.proofs.noted.Statement.{statement}
 use Rattle.history.proofs.noted.Tie as tie
 
@@ -25,10 +25,10 @@ returns c sums building backup =
     let b = c.before.before in
     let a = b.before.before.args in
     rw (← b.before.is-counted.ensures, b.if1.true, eq-eqb a.selected a.t.last c.if2.true, neither)
-    (ap (λ n. with_last n (historyOf a.t sums building backup)) (sym c.if2.true))
+    (ap (λ n. with_last n (history_of a.t sums building backup)) (sym c.if2.true))
 
 returns-2 : tie.Need-returns-2
-unfolding noted with_last startsBuilding with_blocks
+unfolding noted with_last starts_building with_blocks
 returns-2 c sums building backup =
     let b = c.before.before.before.before in
     let a = b.before.before.args in
@@ -50,5 +50,5 @@ returns-4 : tie.Need-returns-4
 unfolding noted
 returns-4 c sums building backup = rw (← c.before.is-counted.ensures, c.if1.false)
 
-pub noted-spec : {M : Type 1} → statement M
-noted-spec = tie.close (tie.spec (search rules) cast-reference returns (search rules) returns-2 returns-3 returns-4)
+pub noted_spec : {M : Type 1} → statement M
+noted_spec = tie.close (tie.spec (search rules) cast-reference returns (search rules) returns-2 returns-3 returns-4)

@@ -8,7 +8,7 @@ use mir.Facts.{to_z-of_z}
 use borrow.Author.Rules.{rules}
 use Rattle.rules.specs.Words.{if◌then◌else◌}
 use Rattle.rules.specs.History.{saturated, completed, recorded}
-use Rattle.history.specs.Bridge.{historyOf, afterUpdate}
+use Rattle.history.specs.Bridge.{history_of, after_update}
 use Rattle.history.proofs.Sums.{stored}
 use Rattle.history.proofs.recorded.Statement.{statement}
 use Rattle.history.proofs.recorded.Tie as tie
@@ -16,19 +16,19 @@ use Rattle.history.proofs.recorded.Tie as tie
 -- what `updated` gives is the rule's history
 whole : (c : tie.After-updated) (backup : List ℤ)
     → let a = c.before.args in
-    afterUpdate c.updated.result (historyOf c.updated.result.tally a.sums.now a.building.now backup)
-    ≡ recorded a.policy a.selected a.locked a.x (historyOf a.t a.sums.now a.building.now backup)
+    after_update c.updated.result (history_of c.updated.result.tally a.sums.now a.building.now backup)
+    ≡ recorded a.policy a.selected a.locked a.x (history_of a.t a.sums.now a.building.now backup)
 whole c backup =
     let a = c.before.args in
     c.updated.ensures.step a.sums.now a.building.now backup
-    ∙ ap (λ (x : ℤ). recorded a.policy a.selected a.locked x (historyOf a.t a.sums.now a.building.now backup)) (to_z-of_z c.before.ranges.x)
+    ∙ ap (λ (x : ℤ). recorded a.policy a.selected a.locked x (history_of a.t a.sums.now a.building.now backup)) (to_z-of_z c.before.ranges.x)
 
 returns : tie.Need-returns
 returns c backup =
     let d = c.before.before.before.before.before in
     let u = d.updated.result in
     let a = d.before.args in
-    let h = historyOf u.tally a.sums.now a.building.now backup in
+    let h = history_of u.tally a.sums.now a.building.now backup in
     let told : to_z w64 (of_z w64 u.sum) ≡ u.sum = stored u.sum (search rules) in
     c.completed.ensures backup ∙ (λ i. if sym c.before.before.before.before.if1.true i then completed (saturated (told i)) h else h) ∙ whole d backup
 
@@ -37,8 +37,8 @@ returns-2 c backup =
     let d = c.before.before in
     let u = d.updated.result in
     let a = d.before.args in
-    let h = historyOf u.tally a.sums.now a.building.now backup in
+    let h = history_of u.tally a.sums.now a.building.now backup in
     (λ i. if sym c.before.if1.false i then completed (saturated u.sum) h else h) ∙ whole d backup
 
-pub recorded-spec : {M : Type 1} → statement M
-recorded-spec = tie.close (tie.spec (search rules) (search rules) returns returns-2)
+pub recorded_spec : {M : Type 1} → statement M
+recorded_spec = tie.close (tie.spec (search rules) (search rules) returns returns-2)

@@ -11,8 +11,8 @@ use mir.Facts.{to_z-of_z}
 use borrow.Author.Tests.{le-leb, lt-leb}
 use borrow.Author.Rules.{rules}
 use Rattle.rules.specs.History.{saturated, refilled, completed, sampled}
-use Rattle.history.specs.Bridge.{keptOf, historyOf}
-use Rattle.history.proofs.Sums.{stored, saturated-again}
+use Rattle.history.specs.Bridge.{kept_of, history_of}
+use Rattle.history.proofs.Sums.{stored, saturated_again}
 use Rattle.history.proofs.sampled.Statement.{statement}
 use Rattle.history.proofs.sampled.Tie as tie
 
@@ -24,7 +24,7 @@ sum_is c =
     ap saturated
     (stored c.summed.result c.summed.type-inv ∙ c.summed.ensures
     ∙ (λ i. saturated (saturated (stored s.args.t.open (search rules) i) +ℤ to_z-of_z s.ranges.x i)))
-    ∙ saturated-again (saturated s.args.t.open +ℤ s.args.x)
+    ∙ saturated_again (saturated s.args.t.open +ℤ s.args.x)
 
 returns : tie.Need-returns
 unfolding sampled
@@ -33,8 +33,8 @@ returns c =
     record {
       step = λ sums building backup.
           rw (lt-leb 128 (t.filled + 1) (omega arith))
-          (λ i. refilled (keptOf sums t.count) (not (eqb t.builds 0)) (keptOf building t.built) (sum_is c.before.before.before i) (t.filled + 1)
-          (historyOf t sums building backup));
+          (λ i. refilled (kept_of sums t.count) (not (eqb t.builds 0)) (kept_of building t.built) (sum_is c.before.before.before i) (t.filled + 1)
+          (history_of t sums building backup));
       none = λ h. refl;
     }
 
@@ -44,9 +44,9 @@ returns-2 c =
     let t = c.before.before.before.before.args.t in
     record {
       step = λ sums building backup.
-          rw (le-leb 128 (t.filled + 1) (omega arith)) (λ i. completed (sum_is c.before.before i) (historyOf t sums building backup));
+          rw (le-leb 128 (t.filled + 1) (omega arith)) (λ i. completed (sum_is c.before.before i) (history_of t sums building backup));
       none = λ h. absurd (true≢false h);
     }
 
-pub sampled-spec : {M : Type 1} → statement M
-sampled-spec = tie.close (tie.spec (search rules) (search rules) returns returns-2)
+pub sampled_spec : {M : Type 1} → statement M
+sampled_spec = tie.close (tie.spec (search rules) (search rules) returns returns-2)

@@ -2,7 +2,7 @@
 use mathlib.Core.Path.{refl, ap, ◌∙◌}
 use mir.Facts.{to_z-of_z}
 use borrow.Author.Rules.{rules}
-use Rattle.rules.specs.History.{openEmptied, sampled, recorded}
+use Rattle.rules.specs.History.{open_emptied, sampled, recorded}
 use Rattle.history.proofs.updated.Statement.{statement}
 use Rattle.history.proofs.updated.Tie as tie
 
@@ -22,9 +22,9 @@ unfolding recorded
 returns-2 c =
     record {
       step = λ sums building backup.
-          rw c.before.if1.false (c.open-emptied.ensures sums building backup ∙ ap openEmptied (c.before.before.noted.ensures sums building backup));
+          rw c.before.if1.false (c.open-emptied.ensures sums building backup ∙ ap open_emptied (c.before.before.noted.ensures sums building backup));
       none = λ h. refl;
     }
 
-pub updated-spec : {M : Type 1} → statement M
-updated-spec = tie.close (tie.spec (search rules) (search rules) returns (search rules) returns-2)
+pub updated_spec : {M : Type 1} → statement M
+updated_spec = tie.close (tie.spec (search rules) (search rules) returns (search rules) returns-2)

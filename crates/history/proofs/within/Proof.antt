@@ -16,5 +16,5 @@ returns-3 c =
     let s = c.before.before in
     to_z-of_z s.ranges.z ∙ inside s.args.z (rw (to_z-of_z s.ranges.z) at c.before.if1.false) (rw (to_z-of_z s.ranges.z) at c.if2.false)
 
-pub within-spec : {M : Type 1} → statement M
-within-spec = tie.close (tie.spec returns returns-2 returns-3)
+pub within_spec : {M : Type 1} → statement M
+within_spec = tie.close (tie.spec returns returns-2 returns-3)

@@ -14,9 +14,9 @@ use Rattle.host.specs.contracts.unit_event.Key.{name}
 use Rattle.host.proofs.unit_event.Statement as stated
 use Rattle.host.proofs.unit_event.Code as code
 
-pub unit-event-spec : {M : Type 1} → stated.statement M
+pub unit_event_spec : {M : Type 1} → stated.statement M
 unfolding code.routine
-unit-event-spec 𝓤 𝓛 𝓜 𝓡 =
+unit_event_spec 𝓤 𝓛 𝓜 𝓡 =
     stores 𝓛 𝓜 𝓡 code.env
     (goes mutable ∷ goes mutable ∷ goes mutable ∷ goes mutable ∷ goes mutable ∷ goes mutable ∷ goes shared ∷ goes shared ∷ goes mutable ∷ goes mutable ∷ goes mutable ∷ goes shared ∷ goes mutable ∷ [])
     (unsigned w8 ∷ unsigned w8 ∷ unsigned w8 ∷ signed w32 ∷ [])

@@ -7,7 +7,7 @@ use Rattle.lend.proofs.Params.{slice}
 use Rattle.lend.proofs.Loan.{mutable}
 use Rattle.lend.proofs.Chosen.{each}
 use Rattle.host.proofs.Lent.{make}
-use Rattle.host.proofs.Lending.{all-arrays}
+use Rattle.host.proofs.Lending.{all_arrays}
 use Rattle.host.proofs.Stores.{stores}
 use Rattle.loading.proofs.load.Symbol as callee
 use Rattle.loading.proofs.load.Met as callee-thm
@@ -15,10 +15,10 @@ use Rattle.host.specs.contracts.unit_load.Key.{name}
 use Rattle.host.proofs.unit_load.Statement as stated
 use Rattle.host.proofs.unit_load.Code as code
 
-pub unit-load-spec : {M : Type 1} → stated.statement M
+pub unit_load_spec : {M : Type 1} → stated.statement M
 unfolding code.routine
-unit-load-spec 𝓤 𝓛 𝓜 𝓡 =
-    stores 𝓛 𝓜 𝓡 code.env (each all-arrays mutable)
+unit_load_spec 𝓤 𝓛 𝓜 𝓡 =
+    stores 𝓛 𝓜 𝓡 code.env (each all_arrays mutable)
     (slice u8 ∷ [])
     (λ k ls x r zs. Leads (make k.0 ls) (loading x.0.now) r.refusal (make r.core zs)) (λ h x n h'. Leads h (loading x.0.now) n h')
     (λ h x r zs e. e) (λ h x n h' e. e.left)

@@ -3,17 +3,17 @@ use Rattle.state.specs.Stored.{Made}
 use Rattle.lend.proofs.Loan.{mutable}
 use Rattle.lend.proofs.Chosen.{each}
 use Rattle.host.proofs.Lent.{make}
-use Rattle.host.proofs.Lending.{all-arrays}
-use Rattle.host.proofs.Makes.{makes-anew}
+use Rattle.host.proofs.Lending.{all_arrays}
+use Rattle.host.proofs.Makes.{makes_anew}
 use Rattle.state.proofs.make.Symbol as callee
 use Rattle.state.proofs.make.Met as callee-thm
 use Rattle.host.specs.contracts.unit_make.Key.{name}
 use Rattle.host.proofs.unit_make.Statement as stated
 use Rattle.host.proofs.unit_make.Code as code
 
-pub unit-make-spec : {M : Type 1} → stated.statement M
+pub unit_make_spec : {M : Type 1} → stated.statement M
 unfolding code.routine
-unit-make-spec 𝓤 𝓛 𝓜 𝓡 =
-    makes-anew 𝓛 𝓜 𝓡 code.env (each all-arrays mutable)
+unit_make_spec 𝓤 𝓛 𝓜 𝓡 =
+    makes_anew 𝓛 𝓜 𝓡 code.env (each all_arrays mutable)
     (λ k ls x c zs. Made (make c zs)) (λ h x u h'. Made h') (λ h c zs e. e)
     name callee.name callee.routine code.calls-state::make (callee-thm.met 𝓤 𝓛 𝓜 𝓡) (code.unfolded 𝓤 𝓛.H 𝓜 𝓡)

@@ -1,7 +1,7 @@
 -- `host::unit_read` meets its contract: the soaks, the sums in use and the registers are lent.
 use mathlib.Core.List.{[], ◌∷◌}
 use mir.Syntax.{w8}
-use Rattle.state.specs.Stored.{Stored, withCore, withSoak, withSums, withRegisters}
+use Rattle.state.specs.Stored.{Stored, with_core, with_soak, with_sums, with_registers}
 use Rattle.readout.specs.Shows.{Shows}
 use Rattle.lend.proofs.Params.{unsigned}
 use Rattle.lend.proofs.Loan.{shared}
@@ -13,10 +13,10 @@ use Rattle.host.specs.contracts.unit_read.Key.{name}
 use Rattle.host.proofs.unit_read.Statement as stated
 use Rattle.host.proofs.unit_read.Code as code
 
-pub unit-read-spec : {M : Type 1} → stated.statement M
+pub unit_read_spec : {M : Type 1} → stated.statement M
 unfolding code.routine
-unit-read-spec 𝓤 𝓛 𝓜 𝓡 =
+unit_read_spec 𝓤 𝓛 𝓜 𝓡 =
     reads 𝓛 𝓜 𝓡 code.env (stays ∷ stays ∷ stays ∷ stays ∷ stays ∷ goes shared ∷ stays ∷ stays ∷ goes shared ∷ stays ∷ stays ∷ stays ∷ goes shared ∷ []) (unsigned w8 ∷ [])
-    (λ k ls x r zs. (s : Stored) → Shows (withCore k.0 (withSoak ls.0 (withSums ls.1.0 (withRegisters ls.1.1.0 s)))) x.0 r)
+    (λ k ls x r zs. (s : Stored) → Shows (with_core k.0 (with_soak ls.0 (with_sums ls.1.0 (with_registers ls.1.1.0 s)))) x.0 r)
     (λ h x r. Shows h x.0 r) (tt, (tt, (tt, tt))) (λ h x r zs e. e h)
     name callee.name callee.routine code.calls-readout::read (callee-thm.met 𝓤 𝓛 𝓜 𝓡) (code.unfolded 𝓤 𝓛.H 𝓜 𝓡)

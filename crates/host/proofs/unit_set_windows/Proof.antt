@@ -3,10 +3,10 @@ use mathlib.Core.List.{[], ◌∷◌}
 use mir.Syntax.{w8}
 use denote.Array.{Array}
 use denote.Builtin.{u32}
-use Rattle.rules.specs.Events.{setWindows}
-use Rattle.rules.specs.Week.{firstWindows}
+use Rattle.rules.specs.Events.{set_windows}
+use Rattle.rules.specs.Week.{first_windows}
 use Rattle.rules.specs.Sheet.{event}
-use Rattle.state.specs.Stored.{Stored, withWindows}
+use Rattle.state.specs.Stored.{Stored, with_windows}
 use Rattle.unit.specs.Given.{Leads, Gives, given}
 use Rattle.lend.proofs.Params as params
 use Rattle.lend.proofs.Params.{unsigned}
@@ -19,11 +19,11 @@ use Rattle.host.specs.contracts.unit_set_windows.Key.{name}
 use Rattle.host.proofs.unit_set_windows.Statement as stated
 use Rattle.host.proofs.unit_set_windows.Code as code
 
-pub unit-set-windows-spec : {M : Type 1} → stated.statement M
+pub unit_set_windows_spec : {M : Type 1} → stated.statement M
 unfolding code.routine
-unit-set-windows-spec 𝓤 𝓛 𝓜 𝓡 =
+unit_set_windows_spec 𝓤 𝓛 𝓜 𝓡 =
     passes_on 𝓛 𝓜 𝓡 code.env (stays ∷ stays ∷ stays ∷ stays ∷ stays ∷ stays ∷ stays ∷ stays ∷ stays ∷ stays ∷ stays ∷ goes mutable ∷ [])
     (unsigned w8 ∷ params.shared (Array u32 16) ∷ [])
-    (λ k ls x r zs. (s : Stored) → Gives (withWindows ls.0 s) (setWindows (firstWindows x.0 x.1.0.now)) r (withWindows zs.0 s))
-    (λ h x n h'. Leads h (given (event (setWindows (firstWindows x.0 x.1.0.now)))) n h') (λ h x r zs e. e h)
+    (λ k ls x r zs. (s : Stored) → Gives (with_windows ls.0 s) (set_windows (first_windows x.0 x.1.0.now)) r (with_windows zs.0 s))
+    (λ h x n h'. Leads h (given (event (set_windows (first_windows x.0 x.1.0.now)))) n h') (λ h x r zs e. e h)
     name callee.name callee.routine code.calls-calls::set-windows (callee-thm.met 𝓤 𝓛 𝓜 𝓡) (code.unfolded 𝓤 𝓛.H 𝓜 𝓡)

@@ -9,5 +9,5 @@ use Rattle.inputs.proofs.number_at.Tie as tie
 returns-2 : tie.Need-returns-2
 returns-2 c = sym (get_or-eq_default c.before.before.before.args.row.now 0 (omega (arith, c.before.lanes.ensures.1, c.if1.false)))
 
-pub number-at-spec : {M : Type 1} → statement M
-number-at-spec = tie.close (tie.spec (λ c κs. tt) (search rules) (search rules) (search rules) returns-2)
+pub number_at_spec : {M : Type 1} → statement M
+number_at_spec = tie.close (tie.spec (λ c κs. tt) (search rules) (search rules) (search rules) returns-2)

@@ -1,23 +1,23 @@
 -- Three rows are replaced where an input is concerned, and by lanes these are the rule's inputs (`put_lane`).
 use mathlib.Core.Path.{◌∙◌}
 use lib.ListN.{get_or}
-use Rattle.rules.specs.Buckets.{putAtSize}
-use Rattle.rules.specs.Inputs.{eachFrom}
+use Rattle.rules.specs.Buckets.{put_at_size}
+use Rattle.rules.specs.Inputs.{each_from}
 use Rattle.buckets.specs.Bridge.{eight}
-use Rattle.inputs.specs.Bridge.{is_set, inputsOf, withActivity}
+use Rattle.inputs.specs.Bridge.{is_set, inputs_of, with_activity}
 use Rattle.inputs.proofs.ByLane.{put_lane}
 use Rattle.inputs.proofs.put_at_size.Statement.{statement}
 use Rattle.inputs.proofs.put_at_size.Tie as tie
 
 returns : tie.Need-returns
-unfolding putAtSize eachFrom inputsOf
+unfolding put_at_size each_from inputs_of
 returns c = λ m.
     let second = c.before in
     let first = second.before in
     let a = first.before.before.before.before.args in
-    (λ i. inputsOf (withActivity m (first.replaced.ensures i) (second.replaced2.ensures i) (c.replaced3.ensures i)))
+    (λ i. inputs_of (with_activity m (first.replaced.ensures i) (second.replaced2.ensures i) (c.replaced3.ensures i)))
     ∙ (λ i. eight (λ k. put_lane (is_set (get_or a.concerned k 0)) a.size (get_or a.level.now k 0) (get_or a.decay.now k 0) (get_or a.activity.now k 0)
     (is_set (get_or m.frequency k 0)) (get_or m.remainder k 0) (get_or m.soak k 0) i))
 
-pub put-at-size-spec : {M : Type 1} → statement M
-put-at-size-spec = tie.close (tie.spec (λ c κs. tt) (λ c κs. tt) (λ c κs. tt) returns)
+pub put_at_size_spec : {M : Type 1} → statement M
+put_at_size_spec = tie.close (tie.spec (λ c κs. tt) (λ c κs. tt) (λ c κs. tt) returns)

@@ -16,8 +16,8 @@ returns c =
     ∷ c.either8.ensures i
     ∷ []
 
-pub replaced-spec : {M : Type 1} → statement M
-replaced-spec =
+pub replaced_spec : {M : Type 1} → statement M
+replaced_spec =
     tie.close
     (tie.spec
     (search rules)

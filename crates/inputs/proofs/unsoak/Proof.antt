@@ -1,10 +1,10 @@
--- Input i's soak alone is another (`altered-lane`).
+-- Input i's soak alone is another (`altered_lane`).
 use mathlib.Core.Path.{◌∙◌}
 use lib.ListN.{set}
 use lib.Seq.{get_or-set_other}
 use Rattle.rules.specs.Monitors.{unsoaked}
-use Rattle.inputs.specs.Bridge.{input_at, inputsOf, withSoak}
-use Rattle.inputs.proofs.ByLane.{alarmed, same_at, altered-lane}
+use Rattle.inputs.specs.Bridge.{input_at, inputs_of, with_soak}
+use Rattle.inputs.proofs.ByLane.{alarmed, same_at, altered_lane}
 use Rattle.inputs.proofs.unsoak.Statement.{statement}
 use Rattle.inputs.proofs.unsoak.Tie as tie
 
@@ -15,12 +15,12 @@ returns c m =
     let a = found.before.args in
     let k = found.lane.result in
     let s = a.soak.now in
-    let old = withSoak m s in
+    let old = with_soak m s in
     let soak = c.put.ensures in
-    (λ t. inputsOf (withSoak m (soak.0 t)))
-    ∙ altered-lane unsoaked old (withSoak m (set s k 0)) a.i found.lane.ensures
+    (λ t. inputs_of (with_soak m (soak.0 t)))
+    ∙ altered_lane unsoaked old (with_soak m (set s k 0)) a.i found.lane.ensures
     (λ h t. let x = input_at old k in alarmed x x.frequency x.remainder (same_at s k 0 soak.1 h t))
     (λ j n t. let x = input_at old j in alarmed x x.frequency x.remainder (get_or-set_other s k j 0 0 n t))
 
-pub unsoak-spec : {M : Type 1} → statement M
-unsoak-spec = tie.close (tie.spec (λ c κs. tt) (λ c κs. tt) returns)
+pub unsoak_spec : {M : Type 1} → statement M
+unsoak_spec = tie.close (tie.spec (λ c κs. tt) (λ c κs. tt) returns)

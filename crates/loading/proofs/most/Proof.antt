@@ -5,7 +5,7 @@ use Rattle.rules.specs.Registers.{registers}
 use Rattle.rules.specs.Loading.{most}
 use Rattle.registers.specs.Bridge.{row}
 use Rattle.registers.specs.declared.Register.{Register}
-use Rattle.loading.proofs.Bytes.{other-address}
+use Rattle.loading.proofs.Bytes.{other_address}
 use Rattle.loading.proofs.most.Statement.{statement}
 use Rattle.loading.proofs.most.Tie as tie
 
@@ -23,7 +23,7 @@ returns-3 c =
     let other = c.before.before in
     let listed = c.before.row_at.ensures in
     ap (λ (r : Register). r.largest) listed
-    ∙ rw (ap (λ (r : Register). r.readonly) (sym listed) ∙ c.if2.false, other-address other.before.args.k other.if1.false) refl
+    ∙ rw (ap (λ (r : Register). r.readonly) (sym listed) ∙ c.if2.false, other_address other.before.args.k other.if1.false) refl
 
-pub most-spec : {M : Type 1} → statement M
-most-spec = tie.close (tie.spec returns (search rules) returns-2 returns-3)
+pub most_spec : {M : Type 1} → statement M
+most_spec = tie.close (tie.spec returns (search rules) returns-2 returns-3)

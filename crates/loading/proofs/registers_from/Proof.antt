@@ -6,20 +6,20 @@ use lib.ListN.{length, get_or, set, length-set}
 use lib.Seq.{get_or-set_same, get_or-set_other}
 use borrow.Author.Rules.{rules}
 use Rattle.rules.proofs.Tests.{one_more}
-use Rattle.loading.proofs.Stored.{kept_at, kept-all}
+use Rattle.loading.proofs.Stored.{kept_at, kept_all}
 use Rattle.loading.proofs.registers_from.Statement.{statement}
 use Rattle.loading.proofs.registers_from.Tie as tie
 
-abbrev invariant-loop : tie.invariant-loop
-invariant-loop table regs₀ k₀ regs k = (k ≤ 27) × (length regs ≡ 32) × (get_or regs 27 0 ≡ 0) × ((j : ℕ) → j < k → get_or regs j 0 ≡ kept_at j (get_or table j 0))
+abbrev invariant_loop : tie.invariant_loop
+invariant_loop table regs₀ k₀ regs k = (k ≤ 27) × (length regs ≡ 32) × (get_or regs 27 0 ≡ 0) × ((j : ℕ) → j < k → get_or regs j 0 ≡ kept_at j (get_or table j 0))
 
-abbrev decreases-loop : tie.decreases-loop
-decreases-loop table regs₀ k₀ regs k = 27 - k
+abbrev decreases_loop : tie.decreases_loop
+decreases_loop table regs₀ k₀ regs k = 27 - k
 
-loop-holds : tie.Need-loop-init invariant-loop decreases-loop
+loop-holds : tie.Need-loop-init invariant_loop decreases_loop
 loop-holds c = (omega arith, refl, refl, λ j h. absurd (omega (arith, h)))
 
-loop-again : tie.Need-loop-preserved invariant-loop decreases-loop
+loop-again : tie.Need-loop-preserved invariant_loop decreases_loop
 loop-again c =
     let at-loop = c.before.before.before in
     let table = at-loop.before.before.args.table.now in
@@ -34,17 +34,17 @@ loop-again c =
           (get_or-set_same l.regs l.k v 0 (omega (arith, l.invariant.1, taken)) ∙ c.kept.ensures),
     )
 
-returns : tie.Need-returns invariant-loop decreases-loop
+returns : tie.Need-returns invariant_loop decreases_loop
 returns c =
-    kept-all c.before.before.before.args.table.now c.before.loop.regs c.before.before.before.requires
+    kept_all c.before.before.before.args.table.now c.before.loop.regs c.before.before.before.requires
     (λ k h. c.before.loop.invariant.3 k (omega (arith, h, c.loop-test.false))) c.before.loop.invariant.2
 
-pub registers-from-spec : {M : Type 1} → statement M
-registers-from-spec =
+pub registers_from_spec : {M : Type 1} → statement M
+registers_from_spec =
     tie.close
     (tie.spec
-    invariant-loop
-    decreases-loop
+    invariant_loop
+    decreases_loop
     loop-holds
     (search rules)
     (search rules)

@@ -16,8 +16,8 @@ returns c =
     λ i. c0.activity-of.ensures i ∷ c1.activity-of2.ensures i ∷ c2.activity-of3.ensures i ∷ c3.activity-of4.ensures i
     ∷ c4.activity-of5.ensures i ∷ c5.activity-of6.ensures i ∷ c6.activity-of7.ensures i ∷ c.activity-of8.ensures i ∷ []
 
-pub activity-row-spec : {M : Type 1} → statement M
-activity-row-spec =
+pub activity_row_spec : {M : Type 1} → statement M
+activity_row_spec =
     tie.close
     (tie.spec
     (search rules)

@@ -16,8 +16,8 @@ returns c =
     λ i. c0.decay-of.ensures i ∷ c1.decay-of2.ensures i ∷ c2.decay-of3.ensures i ∷ c3.decay-of4.ensures i
     ∷ c4.decay-of5.ensures i ∷ c5.decay-of6.ensures i ∷ c6.decay-of7.ensures i ∷ c.decay-of8.ensures i ∷ []
 
-pub decay-row-spec : {M : Type 1} → statement M
-decay-row-spec =
+pub decay_row_spec : {M : Type 1} → statement M
+decay_row_spec =
     tie.close
     (tie.spec
     (search rules)

@@ -9,5 +9,5 @@ use Rattle.monitor.proofs.decays.Tie as tie
 returns : tie.Need-returns
 returns c = rw (add-one c.args.decay, add-one (c.args.last % 256)) (sym (leb-suc-suc (c.args.last % 256) c.args.decay))
 
-pub decays-spec : {M : Type 1} → statement M
-decays-spec = tie.close (tie.spec returns)
+pub decays_spec : {M : Type 1} → statement M
+decays_spec = tie.close (tie.spec returns)

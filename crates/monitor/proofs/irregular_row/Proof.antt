@@ -10,8 +10,8 @@ use Rattle.monitor.proofs.irregular_row.Tie as tie
 returns : tie.Need-returns
 returns c = ap (λ (m : ℕ). eight (weight m)) c.wide16.ensures.0
 
-pub irregular-row-spec : {M : Type 1} → statement M
-irregular-row-spec =
+pub irregular_row_spec : {M : Type 1} → statement M
+irregular_row_spec =
     tie.close
     (tie.spec
     (λ c κs. tt)

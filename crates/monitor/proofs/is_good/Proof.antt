@@ -11,5 +11,5 @@ returns c =
     let a = c.before.before.args in
     rw (not-not (eqb a.activity 0), not-not (eqb a.frequency 0), ← c.before.both.ensures) c.both2.ensures
 
-pub is-good-spec : {M : Type 1} → statement M
-is-good-spec = tie.close (tie.spec (λ c κs. tt) (λ c κs. tt) returns)
+pub is_good_spec : {M : Type 1} → statement M
+is_good_spec = tie.close (tie.spec (λ c κs. tt) (λ c κs. tt) returns)

@@ -16,8 +16,8 @@ returns c =
     λ i. c0.level-of.ensures i ∷ c1.level-of2.ensures i ∷ c2.level-of3.ensures i ∷ c3.level-of4.ensures i
     ∷ c4.level-of5.ensures i ∷ c5.level-of6.ensures i ∷ c6.level-of7.ensures i ∷ c.level-of8.ensures i ∷ []
 
-pub level-row-spec : {M : Type 1} → statement M
-level-row-spec =
+pub level_row_spec : {M : Type 1} → statement M
+level_row_spec =
     tie.close
     (tie.spec
     (search rules)

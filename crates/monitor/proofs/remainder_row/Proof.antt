@@ -6,8 +6,8 @@ use Rattle.monitor.proofs.remainder_row.Tie as tie
 returns : tie.Need-returns
 returns c = cc
 
-pub remainder-row-spec : {M : Type 1} → statement M
-remainder-row-spec =
+pub remainder_row_spec : {M : Type 1} → statement M
+remainder_row_spec =
     tie.close
     (tie.spec
     (search rules)

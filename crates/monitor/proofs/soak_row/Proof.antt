@@ -16,8 +16,8 @@ returns c =
     λ i. c0.soak-of.ensures i ∷ c1.soak-of2.ensures i ∷ c2.soak-of3.ensures i ∷ c3.soak-of4.ensures i
     ∷ c4.soak-of5.ensures i ∷ c5.soak-of6.ensures i ∷ c6.soak-of7.ensures i ∷ c.soak-of8.ensures i ∷ []
 
-pub soak-row-spec : {M : Type 1} → statement M
-soak-row-spec =
+pub soak_row_spec : {M : Type 1} → statement M
+soak_row_spec =
     tie.close
     (tie.spec
     (search rules)

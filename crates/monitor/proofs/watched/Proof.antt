@@ -1,13 +1,13 @@
--- Each row is that of the rule's numbers, and by lanes these are the rule's inputs (`rows-after`).
+-- Each row is that of the rule's numbers, and by lanes these are the rule's inputs (`rows_after`).
 use mathlib.Core.Path.{◌∙◌}
 use lib.ListN.{get_or}
-use Rattle.rules.specs.Monitors.{levelAfter, good, soakAfter}
-use Rattle.buckets.specs.Bridge.{eight, ticksOf, numbers}
+use Rattle.rules.specs.Monitors.{level_after, good, soak_after}
+use Rattle.buckets.specs.Bridge.{eight, ticks_of, numbers}
 use Rattle.buckets.specs.declared.Numbers.{Numbers}
-use Rattle.inputs.specs.Bridge.{is_set, inputsOf}
+use Rattle.inputs.specs.Bridge.{is_set, inputs_of}
 use Rattle.inputs.specs.declared.Monitors.{Monitors}
-use Rattle.monitor.specs.Rows.{decayNumber, activityNumber}
-use Rattle.monitor.proofs.Rows.{rows-after}
+use Rattle.monitor.specs.Rows.{decay_number, activity_number}
+use Rattle.monitor.proofs.Rows.{rows_after}
 use Rattle.monitor.proofs.watched.Statement.{statement}
 use Rattle.monitor.proofs.watched.Tie as tie
 
@@ -30,13 +30,13 @@ returns c =
     let n : Numbers = numbers x.sizes.now x.highs.now x.lows.now x.lasts.now in
     let b = cb.irregular-row.ensures in
     let level = cl.level-row.ensures
-    ∙ (λ i. eight (λ k. levelAfter (get_or n.sizes k 0) (ticksOf (get_or n.lasts k 0)) (is_set (get_or (b i) k 0)) (get_or m.level k 0) (get_or m.decay k 0))) in
-    let decay = cd.decay-row.ensures ∙ (λ i. eight (λ k. decayNumber (get_or n.lasts k 0) (get_or (b i) k 0) (get_or m.decay k 0))) in
-    let activity = ca.activity-row.ensures ∙ (λ i. eight (λ k. activityNumber (get_or n.highs k 0) (get_or n.lows k 0) (get_or (level i) k 0) (get_or m.activity k 0))) in
+    ∙ (λ i. eight (λ k. level_after (get_or n.sizes k 0) (ticks_of (get_or n.lasts k 0)) (is_set (get_or (b i) k 0)) (get_or m.level k 0) (get_or m.decay k 0))) in
+    let decay = cd.decay-row.ensures ∙ (λ i. eight (λ k. decay_number (get_or n.lasts k 0) (get_or (b i) k 0) (get_or m.decay k 0))) in
+    let activity = ca.activity-row.ensures ∙ (λ i. eight (λ k. activity_number (get_or n.highs k 0) (get_or n.lows k 0) (get_or (level i) k 0) (get_or m.activity k 0))) in
     let remainder = cr.remainder-row.ensures in
     let soak = c.soak-row.ensures
-    ∙ (λ i. eight (λ k. soakAfter (good (is_set (get_or (activity i) k 0)) (is_set (get_or m.frequency k 0)) (get_or (remainder i) k 0)) (get_or m.soak k 0))) in
-    (λ i. inputsOf (record {
+    ∙ (λ i. eight (λ k. soak_after (good (is_set (get_or (activity i) k 0)) (is_set (get_or m.frequency k 0)) (get_or (remainder i) k 0)) (get_or m.soak k 0))) in
+    (λ i. inputs_of (record {
       level = level i;
       decay = decay i;
       activity = activity i;
@@ -44,10 +44,10 @@ returns c =
       remainder = remainder i;
       soak = soak i;
     }))
-    ∙ rows-after n x.mask m
+    ∙ rows_after n x.mask m
 
-pub watched-spec : {M : Type 1} → statement M
-watched-spec =
+pub watched_spec : {M : Type 1} → statement M
+watched_spec =
     tie.close
     (tie.spec
     (λ c κs. tt)

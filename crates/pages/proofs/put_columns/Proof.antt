@@ -2,14 +2,14 @@
 use native.Mathlib.Nat.{add-zero}
 use lib.Seq.{get_or-drop}
 use borrow.Author.Rules.{rules}
-use Rattle.rules.specs.Pages.{recordColumns}
+use Rattle.rules.specs.Pages.{record_columns}
 use Rattle.digits.proofs.Putting as puts
 use Rattle.digits.proofs.Putting.{then}
 use Rattle.pages.proofs.put_columns.Statement.{statement}
 use Rattle.pages.proofs.put_columns.Tie as tie
 
 returns : tie.Need-returns
-unfolding recordColumns
+unfolding record_columns
 returns c =
     let feed = c.before.before in
     let status = feed.before.before.before.before in
@@ -32,8 +32,8 @@ returns c =
 same_length : tie.Need-same-length
 same_length c = puts.same_length (returns c)
 
-pub put-columns-spec : {M : Type 1} → statement M
-put-columns-spec =
+pub put_columns_spec : {M : Type 1} → statement M
+put_columns_spec =
     tie.close
     (tie.spec (search rules) (search rules) (search rules) (search rules) (search rules) (search rules) (search rules) (search rules) (search rules)
     (search rules) (search rules) (search rules) (search rules) (search rules) (search rules) (search rules) (search rules) (search rules) (search rules)

@@ -5,19 +5,19 @@ use native.Mathlib.Omega.{arith}
 use lib.Dec.{ltb}
 use borrow.Author.Rules.{rules}
 use borrow.Author.Tests.{ltb-true, ltb-false, lt-ltb, le-ltb}
-use Rattle.rules.specs.Pages.{pageBytes}
-use Rattle.rules.proofs.Tests.{by-test}
+use Rattle.rules.specs.Pages.{page_bytes}
+use Rattle.rules.proofs.Tests.{by_test}
 use Rattle.pages.proofs.too_short.Statement.{statement}
 use Rattle.pages.proofs.too_short.Tie as tie
 
-whole-pages : (room count : ℕ) → ltb (room / pageBytes) count ≡ ltb room (pageBytes * count)
-whole-pages room count =
-    by-test (ltb (room / pageBytes) count)
-    (λ t. t ∙ sym (lt-ltb room (pageBytes * count) (omega (arith, ltb-true (room / pageBytes) count t))))
-    (λ t. t ∙ sym (le-ltb room (pageBytes * count) (omega (arith, ltb-false (room / pageBytes) count t))))
+whole_pages : (room count : ℕ) → ltb (room / page_bytes) count ≡ ltb room (page_bytes * count)
+whole_pages room count =
+    by_test (ltb (room / page_bytes) count)
+    (λ t. t ∙ sym (lt-ltb room (page_bytes * count) (omega (arith, ltb-true (room / page_bytes) count t))))
+    (λ t. t ∙ sym (le-ltb room (page_bytes * count) (omega (arith, ltb-false (room / page_bytes) count t))))
 
 returns : tie.Need-returns
-returns c = whole-pages c.before.args.room c.page-count.result ∙ ap (λ n. ltb c.before.args.room (pageBytes * n)) c.page-count.ensures
+returns c = whole_pages c.before.args.room c.page_count_holds.result ∙ ap (λ n. ltb c.before.args.room (page_bytes * n)) c.page_count_holds.ensures
 
-pub too-short-spec : {M : Type 1} → statement M
-too-short-spec = tie.close (tie.spec (search rules) returns)
+pub too_short_spec : {M : Type 1} → statement M
+too_short_spec = tie.close (tie.spec (search rules) returns)

@@ -1,12 +1,12 @@
 -- `loop_after_hit` meets its contract, by what `unselected_mode` ensures.
-use Rattle.rules.specs.Selection.{unselectedLoop}
+use Rattle.rules.specs.Selection.{unselected_loop}
 use borrow.Author.Rules.{rules}
 use Rattle.pll.proofs.loop_after_hit.Statement.{statement}
 use Rattle.pll.proofs.loop_after_hit.Tie as tie
 
 returns : tie.Need-returns
-unfolding unselectedLoop
+unfolding unselected_loop
 returns c = rw c.unselected-mode.ensures
 
-pub loop-after-hit-spec : {M : Type 1} → statement M
-loop-after-hit-spec = tie.close (tie.spec (search rules) returns)
+pub loop_after_hit_spec : {M : Type 1} → statement M
+loop_after_hit_spec = tie.close (tie.spec (search rules) returns)

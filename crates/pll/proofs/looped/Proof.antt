@@ -18,8 +18,8 @@ returns-3 : tie.Need-returns-3
 unfolding rules.looped
 returns-3 c = rw (c.before.before.if1.false, ← c.before.longer-unlock.ensures, ← c.unlocked.ensures)
 
-pub looped-spec : {M : Type 1} → statement M
-looped-spec =
+pub looped_spec : {M : Type 1} → statement M
+looped_spec =
     tie.close
     (tie.spec
     (search rules)

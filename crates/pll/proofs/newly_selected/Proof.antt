@@ -12,5 +12,5 @@ returns-2 : tie.Need-returns-2
 unfolding mode_of
 returns-2 c = rw (← c.before.is-free-run.ensures, c.if1.false)
 
-pub newly-selected-spec : {M : Type 1} → statement M
-newly-selected-spec = tie.close (tie.spec (search rules) returns returns-2)
+pub newly_selected_spec : {M : Type 1} → statement M
+newly_selected_spec = tie.close (tie.spec (search rules) returns returns-2)

@@ -13,5 +13,5 @@ returns-2 : tie.Need-returns-2
 unfolding steered
 returns-2 c = rw (c.before.mode-after.ensures, ne_eqb _ _ c.if1.false)
 
-pub steered-spec : {M : Type 1} → statement M
-steered-spec = tie.close (tie.spec (search rules) returns returns-2)
+pub steered_spec : {M : Type 1} → statement M
+steered_spec = tie.close (tie.spec (search rules) returns returns-2)

@@ -13,5 +13,5 @@ returns-2 : tie.Need-returns-2
 unfolding rules.unlocked
 returns-2 c = rw (← c.before.is-locked.ensures, c.if1.false)
 
-pub unlocked-spec : {M : Type 1} → statement M
-unlocked-spec = tie.close (tie.spec (search rules) returns returns-2)
+pub unlocked_spec : {M : Type 1} → statement M
+unlocked_spec = tie.close (tie.spec (search rules) returns returns-2)

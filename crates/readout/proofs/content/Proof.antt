@@ -27,7 +27,7 @@ returns-3 c = λ s.
     rw (← ap (λ (r : Register). r.readonly) read.register-at.ensures, other.before.if1.false, ne_eqb read.before.args.a 0x26 other.if2.false)
     c.setting.ensures
 
-pub content-spec : {M : Type 1} → statement M
-content-spec =
+pub content_spec : {M : Type 1} → statement M
+content_spec =
     tie.close
     (tie.spec (search rules) (search rules) returns returns-2 (search rules) returns-3)

@@ -13,5 +13,5 @@ returns-2 : tie.Need-returns-2
 unfolding reading.hours
 returns-2 c = rw (← c.before.is-holdover.ensures, c.if1.false) refl
 
-pub hours-spec : {M : Type 1} → statement M
-hours-spec = tie.close (tie.spec (search rules) (search rules) returns returns-2)
+pub hours_spec : {M : Type 1} → statement M
+hours_spec = tie.close (tie.spec (search rules) (search rules) returns returns-2)

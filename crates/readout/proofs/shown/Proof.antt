@@ -16,7 +16,7 @@ unfolding reading.shown
 returns-2 c = λ s. rw c.before.if2.true (c.qualified-mask.ensures s.monitors)
 
 returns-3 : tie.Need-returns-3
-unfolding reading.shown reading.availableMask
+unfolding reading.shown reading.available_mask
 returns-3 c = λ s. rw c.before.if3.true (c.available-mask.ensures s.monitors)
 
 returns-4 : tie.Need-returns-4
@@ -30,26 +30,26 @@ returns-5 c = λ s.
     let a = read.before.before.before.before.before.before.args in
     let isReady = read.is-ready.ensures a.sums.now s.history.building s.history.backup in
     let is_held = c.before.holds-backup.ensures a.sums.now s.history.building s.history.backup in
-    rw read.before.if5.true (c.status-byte.ensures ∙ (λ i. reading.statusByte (mode_of a.k.pll.mode) (isReady i) (is_held i)))
+    rw read.before.if5.true (c.status-byte.ensures ∙ (λ i. reading.status_byte (mode_of a.k.pll.mode) (isReady i) (is_held i)))
 
 returns-6 : tie.Need-returns-6
-unfolding reading.shown reading.valueByte
-returns-6 c = λ s. rw c.before.if6.true (c.value-byte.ensures s.history.building s.history.backup)
+unfolding reading.shown reading.value_byte
+returns-6 c = λ s. rw c.before.if6.true (c.value_byte_small.ensures s.history.building s.history.backup)
 
 returns-7 : tie.Need-returns-7
-unfolding reading.shown reading.valueByte
+unfolding reading.shown reading.value_byte
 returns-7 c = λ s. rw c.before.if7.true (c.value-byte2.ensures s.history.building s.history.backup)
 
 returns-8 : tie.Need-returns-8
-unfolding reading.shown reading.valueByte
+unfolding reading.shown reading.value_byte
 returns-8 c = λ s. rw c.before.if8.true (c.value-byte3.ensures s.history.building s.history.backup)
 
 returns-9 : tie.Need-returns-9
-unfolding reading.shown reading.valueByte
+unfolding reading.shown reading.value_byte
 returns-9 c = λ s. rw c.before.if9.true (c.value-byte4.ensures s.history.building s.history.backup)
 
 returns-10 : tie.Need-returns-10
-unfolding reading.shown reading.availableCount
+unfolding reading.shown reading.available_count
 returns-10 c = λ s.
     let e = c.before in
     let a = e.before.before.before.before.before.before.before.before.before.args in
@@ -66,8 +66,8 @@ returns-10 c = λ s.
     )
     (c.available-count.ensures s.monitors)
 
-pub shown-spec : {M : Type 1} → statement M
-shown-spec =
+pub shown_spec : {M : Type 1} → statement M
+shown_spec =
     tie.close
     (tie.spec
     (search rules)

@@ -22,6 +22,6 @@ returns-2 : tie.Need-returns-2
 returns-2 c = λ building backup.
     rw (← c.before.is-ready.ensures c.before.before.args.sums.now building backup, c.if1.false) refl
 
-pub value-byte-spec : {M : Type 1} → statement M
-value-byte-spec =
+pub value_byte_spec : {M : Type 1} → statement M
+value_byte_spec =
     tie.close (tie.spec (search rules) (search rules) (search rules) (search rules) (search rules) returns returns-2)

@@ -5,8 +5,8 @@ use Rattle.registers.proofs.in_map.Statement.{statement}
 use Rattle.registers.proofs.in_map.Tie as tie
 
 returns : tie.Need-returns
-unfolding rules.inMap
+unfolding rules.in_map
 returns c = rw c.slot.ensures
 
-pub in-map-spec : {M : Type 1} → statement M
-in-map-spec = tie.close (tie.spec (search rules) returns)
+pub in_map_spec : {M : Type 1} → statement M
+in_map_spec = tie.close (tie.spec (search rules) returns)

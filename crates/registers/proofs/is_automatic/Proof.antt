@@ -6,5 +6,5 @@ use Rattle.registers.proofs.is_automatic.Tie as tie
 returns : tie.Need-returns
 returns c = rw c.setting.ensures
 
-pub is-automatic-spec : {M : Type 1} → statement M
-is-automatic-spec = tie.close (tie.spec (search rules) returns)
+pub is_automatic_spec : {M : Type 1} → statement M
+is_automatic_spec = tie.close (tie.spec (search rules) returns)

@@ -7,7 +7,7 @@ use Rattle.registers.proofs.is_revertive.Tie as tie
 
 returns : tie.Need-returns
 unfolding revertive bit
-returns c = rw c.own-register.ensures
+returns c = rw c.own_register.ensures
 
-pub is-revertive-spec : {M : Type 1} → statement M
-is-revertive-spec = tie.close (tie.spec (search rules) returns)
+pub is_revertive_spec : {M : Type 1} → statement M
+is_revertive_spec = tie.close (tie.spec (search rules) returns)

@@ -16,5 +16,5 @@ returns-2 : tie.Need-returns-2
 unfolding rules.registers row
 returns-2 c = ap row (sym (get_or-eq_default rules.registers (rules.reads 0) {n = c.before.args.k} c.if1.false))
 
-pub row-at-spec : {M : Type 1} → statement M
-row-at-spec = tie.close (tie.spec (search rules) (search rules) returns returns-2)
+pub row_at_spec : {M : Type 1} → statement M
+row_at_spec = tie.close (tie.spec (search rules) (search rules) returns returns-2)

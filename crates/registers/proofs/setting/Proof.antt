@@ -2,16 +2,16 @@
 use native.Mathlib.Omega.{arith}
 use borrow.Author.Rules.{rules}
 use Rattle.rules.specs.Registers as rules
-use Rattle.registers.proofs.Slots.{slot-le}
+use Rattle.registers.proofs.Slots.{slot_le}
 use Rattle.registers.proofs.setting.Statement.{statement}
 use Rattle.registers.proofs.setting.Tie as tie
 
 element-copy-out-result : tie.Need-element-copy-out-result
-element-copy-out-result c = omega (arith, slot-le c.before.args.a)
+element-copy-out-result c = omega (arith, slot_le c.before.args.a)
 
 returns : tie.Need-returns
-unfolding rules.settingsFrom
+unfolding rules.settings_from
 returns c = rw c.before.slot.ensures
 
-pub setting-spec : {M : Type 1} → statement M
-setting-spec = tie.close (tie.spec (search rules) element-copy-out-result returns)
+pub setting_spec : {M : Type 1} → statement M
+setting_spec = tie.close (tie.spec (search rules) element-copy-out-result returns)

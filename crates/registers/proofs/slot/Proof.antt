@@ -30,5 +30,5 @@ returns-5 c =
     let a = c.before.before.before.before.args.a in
     rw (le-leb 0x1c a (omega arith), lt-leb a 0x27 (omega arith), le-leb 0x40 a (omega arith), lt-leb a 0x4e (omega arith))
 
-pub slot-spec : {M : Type 1} → statement M
-slot-spec = tie.close (tie.spec returns (search rules) returns-2 returns-3 (search rules) (search rules) returns-4 returns-5)
+pub slot_spec : {M : Type 1} → statement M
+slot_spec = tie.close (tie.spec returns (search rules) returns-2 returns-3 (search rules) (search rules) returns-4 returns-5)

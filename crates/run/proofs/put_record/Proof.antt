@@ -3,9 +3,9 @@ use mathlib.Core.Path.{ap, ◌∙◌}
 use lib.ListN.{length-set}
 use native.Mathlib.Omega.{arith}
 use borrow.Author.Rules.{rules}
-use Rattle.rules.specs.Reading.{statusByte}
+use Rattle.rules.specs.Reading.{status_byte}
 use Rattle.pll.specs.Bridge.{mode_of}
-use Rattle.state.specs.Stored.{meaning, withCore, withSoak}
+use Rattle.state.specs.Stored.{meaning, with_core, with_soak}
 use Rattle.run.proofs.Parts.{four}
 use Rattle.rules.proofs.Sheets.{record_is}
 use Rattle.run.proofs.put_record.Statement.{statement}
@@ -28,12 +28,12 @@ returns c s =
     let start = ready.before.before in
     let a = start.args in
     let status = stated.status-byte.ensures
-    ∙ (λ i. statusByte (mode_of a.k.pll.mode) (ready.is-ready.ensures s.history.sums s.history.building s.history.backup i) (held.holds-backup.ensures s.history.sums s.history.building s.history.backup i)) in
-    rw (record_is a.refusal (meaning (withCore a.k (withSoak a.soak.now s))), ← c.before.state-byte.ensures, ← status, ← c.qualified-mask.ensures s.monitors)
+    ∙ (λ i. status_byte (mode_of a.k.pll.mode) (ready.is-ready.ensures s.history.sums s.history.building s.history.backup i) (held.holds-backup.ensures s.history.sums s.history.building s.history.backup i)) in
+    rw (record_is a.refusal (meaning (with_core a.k (with_soak a.soak.now s))), ← c.before.state-byte.ensures, ← status, ← c.qualified-mask.ensures s.monitors)
     (four _ _ _ _ a.out.now start.requires)
 
-pub put-record-spec : {M : Type 1} → statement M
-put-record-spec =
+pub put_record_spec : {M : Type 1} → statement M
+put_record_spec =
     tie.close
     (tie.spec
     (λ c κs. tt)

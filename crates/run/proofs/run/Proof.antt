@@ -3,7 +3,7 @@ use mathlib.Core.Path.{◌≡◌, refl, ap, sym, ◌∙◌}
 use lib.ListN.{length, take}
 use borrow.Author.Rules.{rules}
 use Rattle.rules.specs.Sheet as rules
-use Rattle.rules.proofs.Sheets.{front-part}
+use Rattle.rules.proofs.Sheets.{front_part}
 use Rattle.run.proofs.run.Statement.{statement}
 use Rattle.run.proofs.run.Tie as tie
 
@@ -12,7 +12,7 @@ front : (c : tie.After-run-into)
     take c.run-into.result c.run-into.new.1.0 ≡ rules.front a.sheet.now (length a.out.now)
 front c =
     let a = c.before.before.before.before.args in
-    ap (take c.run-into.result) c.run-into.ensures.1 ∙ front-part a.sheet.now a.out.now c.run-into.result c.run-into.ensures.0
+    ap (take c.run-into.result) c.run-into.ensures.1 ∙ front_part a.sheet.now a.out.now c.run-into.result c.run-into.ensures.0
 
 slice-aggregate-result : tie.Need-slice-aggregate-result
 slice-aggregate-result c = c.before.before.before.run-into.ensures.0 ∙ sym (ap length (front c.before.before.before))

@@ -5,12 +5,12 @@ use mathlib.Core.List.{List}
 use native.Mathlib.Omega.{arith}
 use lib.ListN.{length, length-drop}
 use borrow.Author.Rules.{rules}
-use Rattle.rules.specs.Sheet.{settingsCount, eventsAt, eventsCount, sheetEnd, recordCount, check, over, outputAfter}
+use Rattle.rules.specs.Sheet.{settings_count, events_at, events_count, sheet_end, record_count, check, over, output_after}
 use Rattle.rules.proofs.Sheets.{outputs}
 use Rattle.sheet.proofs.Numbers.{runs}
-use Rattle.rules.proofs.Parts.{part-all}
-use Rattle.waits.proofs.Floor.{floor-le}
-use Rattle.run.proofs.Ran.{refused, all-written}
+use Rattle.rules.proofs.Parts.{part_all}
+use Rattle.waits.proofs.Floor.{floor_le}
+use Rattle.run.proofs.Ran.{refused, all_written}
 use Rattle.run.proofs.run_into.Statement.{statement}
 use Rattle.run.proofs.run_into.Tie as tie
 
@@ -21,7 +21,7 @@ zero c = sym c.before.check.ensures ∙ c.if1.false
 -- the counts are the sheet's
 counts : (c : tie.After-counts-of)
     → let s = c.before.before.before.before.before.args.sheet.now in
-    (c.Counts-of.result.settings ≡ settingsCount s) × (c.Counts-of.result.events ≡ eventsCount s)
+    (c.Counts-of.result.settings ≡ settings_count s) × (c.Counts-of.result.events ≡ events_count s)
 counts c = c.Counts-of.ensures.0
 
 -- what the counts of a sheet that will run say of its length, and of the output's
@@ -33,14 +33,14 @@ record Sizes (settings events len room : ℕ) : Type 0 where
 sizes : (c : tie.After-counts-of)
     → let a = c.before.before.before.before.before.args in
     Sizes c.Counts-of.result.settings c.Counts-of.result.events (length a.sheet.now) (length a.out.now)
-unfolding sheetEnd eventsAt settingsCount eventsCount recordCount
+unfolding sheet_end events_at settings_count events_count record_count
 sizes c =
     let r = runs _ _ (zero c.before) in
     let n = counts c in
     record { whole = omega (arith, r.whole, n.0, n.1); fits = omega arith; room_for = omega (arith, r.fits, n.0, n.1) }
 
 returns : tie.Need-returns
-unfolding outputAfter
+unfolding output_after
 returns c =
     let a = c.before.before.before.before.args in
     let e = refused a.sheet.now (length a.out.now) (λ z. c.if1.true (c.before.check.ensures ∙ z)) in
@@ -63,9 +63,9 @@ run-settings-requires c κs =
     let keyed = read.before.before in
     let begun = keyed.before.before.before.before.before.before.before.before.before in
     let z = sizes begun in (
-      rw part-all (omega (arith, z.whole, length-drop 2 begun.before.before.before.before.before.args.sheet.now)),
+      rw part_all (omega (arith, z.whole, length-drop 2 begun.before.before.before.before.before.args.sheet.now)),
       omega (arith, z.room_for),
-      record { keyed = keyed.keys_of.ensures; delayed = rw (floored.delay-floor.ensures, read.setting.ensures) (floor-le _) },
+      record { keyed = keyed.keys_of.ensures; delayed = rw (floored.delay-floor.ensures, read.setting.ensures) (floor_le _) },
     )
 
 sub-run-events : tie.Need-overflow-sub-run-events
@@ -87,8 +87,8 @@ run-events-requires c κs =
     let begun = counted s in
     let n = begun.Counts-of.result.settings in
     let z = sizes begun in (
-      rw part-all (omega (arith, z.whole, length-drop (2 + 2 * n + 2) begun.before.before.before.before.before.args.sheet.now)),
-      rw part-all (omega (arith, z.room_for, length-drop (4 * n) settled.new.1.1.1.1.1.1.1.1.1.1.0, settled.auto.1.1.1.1.1.1.1.1.1.1.0)),
+      rw part_all (omega (arith, z.whole, length-drop (2 + 2 * n + 2) begun.before.before.before.before.before.args.sheet.now)),
+      rw part_all (omega (arith, z.room_for, length-drop (4 * n) settled.new.1.1.1.1.1.1.1.1.1.1.0, settled.auto.1.1.1.1.1.1.1.1.1.1.0)),
       settled.ensures.1.1,
     )
 
@@ -99,7 +99,7 @@ mul-result : tie.Need-overflow-mul-result
 mul-result c = let n = (counted c.before.before.before.before.before.before.before.before.before.before.before.before.before).Counts-of.ensures.1 in omega (arith, n.0, n.1)
 
 returns-2 : tie.Need-returns-2
-unfolding recordCount
+unfolding record_count
 returns-2 c =
     let ran = c.before.before.run-events in
     let s = c.before.before.before.before.before.before.before.before.before.before.before.before.before in
@@ -111,7 +111,7 @@ returns-2 c =
     let a = begun.before.before.before.before.before.args in
     let z = zero begun.before in (
       omega (arith, (outputs a.sheet.now a.out.now z).written, n.0, n.1),
-      all-written a.sheet.now a.out.now settled.new.1.1.1.1.1.1.1.1.1.1.0 ran.new.1.1.1.1.1.1.1.1.1.1.0 _ _ _ _ z n.0 n.1
+      all_written a.sheet.now a.out.now settled.new.1.1.1.1.1.1.1.1.1.1.0 ran.new.1.1.1.1.1.1.1.1.1.1.0 _ _ _ _ z n.0 n.1
           u.ensures (settled.ensures.0 made) (settled.ensures.1.0 made) ran.ensures,
     )
 
@@ -122,8 +122,8 @@ same_length c =
     let a = begun.before.before.before.before.before.args in
     ap length (returns-2 c).1 ∙ (outputs a.sheet.now a.out.now (zero begun.before)).kept
 
-pub run-into-spec : {M : Type 1} → statement M
-run-into-spec =
+pub run_into_spec : {M : Type 1} → statement M
+run_into_spec =
     tie.close
     (tie.spec
     (search rules)

@@ -10,38 +10,38 @@ use lib.ListN.{length, drop, length-drop}
 use borrow.Author.Rules.{rules}
 use Rattle.rules.specs.Run as rules
 use Rattle.rules.specs.Run.{run, outcome}
-use Rattle.rules.specs.Registers.{settingsFrom}
-use Rattle.rules.specs.Sheet.{settingsOf, records}
+use Rattle.rules.specs.Registers.{settings_from}
+use Rattle.rules.specs.Sheet.{settings_of, records}
 use Rattle.rules.specs.State.{State}
 use Rattle.selection.specs.Bridge.{Follows}
-use Rattle.state.specs.Stored.{Stored, meaning, withCore, withSoak, withRegisters, withSums, withBuilding, withBackup}
+use Rattle.state.specs.Stored.{Stored, meaning, with_core, with_soak, with_registers, with_sums, with_building, with_backup}
 use Rattle.state.specs.declared.Core.{Core}
-use Rattle.rules.proofs.Parts.{part-all}
-use Rattle.run.proofs.Turns.{Going, going_start, going-put, going_done, settings-more}
+use Rattle.rules.proofs.Parts.{part_all}
+use Rattle.run.proofs.Turns.{Going, going_start, going-put, going_done, settings_more}
 use Rattle.run.proofs.run_settings.Statement.{statement}
 use Rattle.run.proofs.run_settings.Tie as tie
 
 -- the state of a unit with these soaks, registers and sums
 abbrev lying : List ℕ → Core → List ℕ → List ℤ → List ℤ → List ℤ → Stored → State
 lying soak k regs sums building backup s =
-    meaning (withCore k (withSoak soak (withRegisters regs (withSums sums (withBuilding building (withBackup backup s))))))
+    meaning (with_core k (with_soak soak (with_registers regs (with_sums sums (with_building building (with_backup backup s))))))
 
-abbrev invariant-loop : tie.invariant-loop
-invariant-loop part n soak regs₀ keys₀ handed₀ sums₀ building₀ backup₀ out₀ k₀ i₀ regs keys handed sums building backup out k i =
+abbrev invariant_loop : tie.invariant_loop
+invariant_loop part n soak regs₀ keys₀ handed₀ sums₀ building₀ backup₀ out₀ k₀ i₀ regs keys handed sums building backup out k i =
     (i ≤ n)
     × (length out ≡ length out₀)
-    × Follows (settingsFrom regs) keys handed
+    × Follows (settings_from regs) keys handed
     × ((s : Stored)
-    → Going (records (lying soak k₀ regs₀ sums₀ building₀ backup₀ s) (settingsOf n part)) out₀ (4 * i) (lying soak k regs sums building backup s)
-    (settingsOf (n - i) (drop (2 * i) part)) out)
+    → Going (records (lying soak k₀ regs₀ sums₀ building₀ backup₀ s) (settings_of n part)) out₀ (4 * i) (lying soak k regs sums building backup s)
+    (settings_of (n - i) (drop (2 * i) part)) out)
     × ((s : Stored)
-    → run (lying soak k regs sums building backup s) (settingsOf (n - i) (drop (2 * i) part))
-    ≡ run (lying soak k₀ regs₀ sums₀ building₀ backup₀ s) (settingsOf n part))
+    → run (lying soak k regs sums building backup s) (settings_of (n - i) (drop (2 * i) part))
+    ≡ run (lying soak k₀ regs₀ sums₀ building₀ backup₀ s) (settings_of n part))
 
-abbrev decreases-loop : tie.decreases-loop
-decreases-loop part n soak regs₀ keys₀ handed₀ sums₀ building₀ backup₀ out₀ k₀ i₀ regs keys handed sums building backup out k i = n - i
+abbrev decreases_loop : tie.decreases_loop
+decreases_loop part n soak regs₀ keys₀ handed₀ sums₀ building₀ backup₀ out₀ k₀ i₀ regs keys handed sums building backup out k i = n - i
 
-loop-holds : tie.Need-loop-init invariant-loop decreases-loop
+loop-holds : tie.Need-loop-init invariant_loop decreases_loop
 loop-holds c =
     let start = c.before.before in
     let a = start.args in
@@ -49,32 +49,32 @@ loop-holds c =
       search rules,
       refl,
       start.requires.2,
-      (λ s. rw (sub-zero a.n) (going_start (begun s) (settingsOf a.n a.part.now) a.out.now)),
-      (λ s. ap (λ (k : ℕ). run (begun s) (settingsOf k a.part.now)) (sub-zero a.n)),
+      (λ s. rw (sub-zero a.n) (going_start (begun s) (settings_of a.n a.part.now) a.out.now)),
+      (λ s. ap (λ (k : ℕ). run (begun s) (settings_of k a.part.now)) (sub-zero a.n)),
     )
 
 -- within a turn there is room for the setting's record
-room : (c : tie.In-loop invariant-loop decreases-loop) → (4 * c.before.loop.i + 4 ≤ length c.before.loop.out) × (length c.before.loop.out < 2 ^ 64)
+room : (c : tie.In-loop invariant_loop decreases_loop) → (4 * c.before.loop.i + 4 ≤ length c.before.loop.out) × (length c.before.loop.out < 2 ^ 64)
 room c =
     let start = c.before.before.before.before in
     (omega (arith, c.before.loop.invariant.1, c.loop-test.true, start.requires.1), omega (arith, c.before.loop.invariant.1, start.well-formed.1.1.1.1.1.1.1.1.1.1.0))
 
-put-record-requires : tie.Need-put-record-requires invariant-loop decreases-loop
+put-record-requires : tie.Need-put-record-requires invariant_loop decreases_loop
 put-record-requires c κs =
     let in-loop = c.before.before.before.before.before.before.before.before.before.before.before in
     let at-loop = in-loop.before in
-    rw part-all (omega (arith, length-drop (4 * at-loop.loop.i) at-loop.loop.out, at-loop.loop.invariant.1, in-loop.loop-test.true, at-loop.before.before.before.requires.1))
+    rw part_all (omega (arith, length-drop (4 * at-loop.loop.i) at-loop.loop.out, at-loop.loop.invariant.1, in-loop.loop-test.true, at-loop.before.before.before.requires.1))
 
 -- the turn that ends
-abbrev turn : tie.After-slice-known2 invariant-loop decreases-loop → tie.In-loop invariant-loop decreases-loop
+abbrev turn : tie.After-slice-known2 invariant_loop decreases_loop → tie.In-loop invariant_loop decreases_loop
 turn c = c.before.before.before.before.before.before.before.before.before.before.before.before.before.before
 
-add-i : tie.Need-overflow-add-i invariant-loop decreases-loop
+add-i : tie.Need-overflow-add-i invariant_loop decreases_loop
 add-i c =
     let t = turn c in
     omega (arith, t.loop-test.taken, t.before.before.before.before.fits.n)
 
-loop-again : tie.Need-loop-preserved invariant-loop decreases-loop
+loop-again : tie.Need-loop-preserved invariant_loop decreases_loop
 unfolding run outcome
 loop-again c =
     let put = c.before.before in
@@ -84,8 +84,8 @@ loop-again c =
     let a = at-loop.before.before.before.args in
     let l = at-loop.loop in
     let i = l.i in
-    let rest = settingsOf (a.n - (i + 1)) (drop (2 * (i + 1)) a.part.now) in
-    let more = settings-more a.n i a.part.now in-loop.loop-test.taken in
+    let rest = settings_of (a.n - (i + 1)) (drop (2 * (i + 1)) a.part.now) in
+    let more = settings_more a.n i a.part.now in-loop.loop-test.taken in
     let told = stepped.write.ensures in
     let soak = a.soak.now in
     -- any unit will do for the output's length
@@ -99,38 +99,38 @@ loop-again c =
     } in
     let last = stepped.write.new in
     let after : Stored → Stored = λ s.
-    withRegisters last.1.1.1.0 (withSums last.1.1.1.1.1.1.0 (withBuilding last.1.1.1.1.1.1.1.0 (withBackup last.1.1.1.1.1.1.1.1.0 s))) in
+    with_registers last.1.1.1.0 (with_sums last.1.1.1.1.1.1.0 (with_building last.1.1.1.1.1.1.1.0 (with_backup last.1.1.1.1.1.1.1.1.0 s))) in
     let going : (s : Stored) → _ = λ s.
-    going-put _ _ (4 * i) (4 * (i + 1)) _ _ _ _ _ _ _ (omega arith) (omega (arith, l.inv.1)) more (told.0 (withSoak soak s)).rules
+    going-put _ _ (4 * i) (4 * (i + 1)) _ _ _ _ _ _ _ (omega arith) (omega (arith, l.inv.1)) more (told.0 (with_soak soak s)).rules
     (put.put_record.ensures (after s)) (l.inv.3 s) in (
       search rules,
       (going some).same,
       told.1 l.inv.2,
       going,
       (λ s.
-          ap (λ (o : rules.Outcome). run o.state rest) (told.0 (withSoak soak s)).rules
+          ap (λ (o : rules.Outcome). run o.state rest) (told.0 (with_soak soak s)).rules
           ∙ sym (ap (run (lying soak l.k l.regs l.sums l.building l.backup s)) more) ∙ l.inv.4 s),
     )
 
-returns : tie.Need-returns invariant-loop decreases-loop
-unfolding settingsOf run
+returns : tie.Need-returns invariant_loop decreases_loop
+unfolding settings_of run
 returns c =
     let at-loop = c.before in
     let a = at-loop.before.before.before.args in
     let l = at-loop.loop in
     let i = l.i in
     let e : a.n - i ≡ 0 = omega arith in
-    let left = ap (λ (k : ℕ). settingsOf k (drop (2 * i) a.part.now)) e in (
+    let left = ap (λ (k : ℕ). settings_of k (drop (2 * i) a.part.now)) e in (
       (λ s. sym (ap (run (lying a.soak.now l.k l.regs l.sums l.building l.backup s)) left) ∙ l.invariant.4 s),
       ((λ s. going_done _ _ (4 * i) _ _ _ (omega (arith, l.invariant.1)) left (l.invariant.3 s)), l.invariant.2),
     )
 
-pub run-settings-spec : {M : Type 1} → statement M
-run-settings-spec =
+pub run_settings_spec : {M : Type 1} → statement M
+run_settings_spec =
     tie.close
     (tie.spec
-    invariant-loop
-    decreases-loop
+    invariant_loop
+    decreases_loop
     loop-holds
     (omega arith)
     (omega arith)

@@ -6,5 +6,5 @@ use Rattle.run.proofs.sheet_check.Tie as tie
 returns : tie.Need-returns
 returns c = c.check.ensures
 
-pub sheet-check-spec : {M : Type 1} → statement M
-sheet-check-spec = tie.close (tie.spec (search rules) returns)
+pub sheet_check_spec : {M : Type 1} → statement M
+sheet_check_spec = tie.close (tie.spec (search rules) returns)

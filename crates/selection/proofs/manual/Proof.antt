@@ -12,8 +12,8 @@ returns-2 : tie.Need-returns-2
 unfolding manual
 returns-2 c m = rw (← c.before.before.before.before.setting.ensures, ← c.before.before.before.wide32.ensures.0, ← c.before.before.qualified-at.ensures m, c.before.if1.false) c.settled2.ensures
 
-pub manual-spec : {M : Type 1} → statement M
-manual-spec =
+pub manual_spec : {M : Type 1} → statement M
+manual_spec =
     tie.close
     (tie.spec
     (search rules)

@@ -5,32 +5,32 @@ use mathlib.Core.Path.{◌≡◌, refl, ap, sym, ◌∙◌}
 use mathlib.Core.Bool.{Bool, false, not, ◌&&◌}
 use native.Mathlib.Omega.{arith}
 use borrow.Author.Tests.{leb-false, lt-leb}
-use Rattle.rules.specs.Settings.{delayTicks}
-use Rattle.rules.specs.Selection.{Choice, waitAfter, switches, reverted}
+use Rattle.rules.specs.Settings.{delay_ticks}
+use Rattle.rules.specs.Selection.{Choice, wait_after, switches, reverted}
 use Rattle.rules.specs.Week.{busy}
 use Rattle.rules.proofs.Tests.{not-true}
-use Rattle.rules.proofs.BusyHours.{not-over}
-use Rattle.week.specs.Bridge.{windowsOf}
+use Rattle.rules.proofs.BusyHours.{not_over}
+use Rattle.week.specs.Bridge.{windows_of}
 use Rattle.selection.specs.Bridge.{choice_of}
 use Rattle.selection.proofs.reverted.Statement.{statement}
 use Rattle.selection.proofs.reverted.Tie as tie
 
 -- a longer delay is not over where a shorter one is not
-nor-longer : (m n wait : ℕ) → m ≤ n → switches m wait ≡ false → switches n wait ≡ false
+nor_longer : (m n wait : ℕ) → m ≤ n → switches m wait ≡ false → switches n wait ≡ false
 unfolding switches
-nor-longer m n wait h e = lt-leb n (wait - 1) (omega (arith, leb-false m (wait - 1) e))
+nor_longer m n wait h e = lt-leb n (wait - 1) (omega (arith, leb-false m (wait - 1) e))
 
 -- outside a window the wait rises whatever the delay is
-any-delay : (m n b : ℕ) (c : Choice) → waitAfter false m b c ≡ waitAfter false n b c
-unfolding waitAfter
-any-delay m n b c = refl
+any_delay : (m n b : ℕ) (c : Choice) → wait_after false m b c ≡ wait_after false n b c
+unfolding wait_after
+any_delay m n b c = refl
 
 -- the delay, and whether a window blocks the switch
 abbrev delayed : tie.Start → ℕ
-delayed c = delayTicks c.args.minutes
+delayed c = delay_ticks c.args.minutes
 
 abbrev blocked : tie.Start → Bool
-blocked c = busy (windowsOf c.args.windows.now) c.args.place
+blocked c = busy (windows_of c.args.windows.now) c.args.place
 
 returns : tie.Need-returns
 returns c below =
@@ -38,38 +38,38 @@ returns c below =
     let known = tested.before in
     let start = known.before in
     let a = start.args in
-    let risen = known.wait-after.ensures ∙ any-delay a.handed (delayed start) a.b (choice_of a.c) in
+    let risen = known.wait-after.ensures ∙ any_delay a.handed (delayed start) a.b (choice_of a.c) in
     let goes_on = sym (tested.switches.ensures ∙ ap (switches a.handed) risen) ∙ not-true _ c.before.if1.true in
     c.waiting.ensures
     ∙ (λ i. record { selected = a.c.selected; wait = risen i; awaited = a.b })
-    ∙ sym (not-over (delayed start) a.b (choice_of a.c) (blocked start) (nor-longer a.handed (delayed start) _ below goes_on))
+    ∙ sym (not_over (delayed start) a.b (choice_of a.c) (blocked start) (nor_longer a.handed (delayed start) _ below goes_on))
 
 -- the wait, with the delay that is looked up
-wait-is : (c : tie.After-wait-after2)
+wait_is : (c : tie.After-wait-after2)
     → let start = c.before.before.before.before.before.before in
     let a = start.args in
-    c.wait-after2.result ≡ waitAfter (blocked start) (delayed start) a.b (choice_of a.c)
-wait-is c =
+    c.wait-after2.result ≡ wait_after (blocked start) (delayed start) a.b (choice_of a.c)
+wait_is c =
     let found = c.before in
     let a = found.before.before.before.before.before.args in
-    c.wait-after2.ensures ∙ (λ i. waitAfter (found.is-busy.ensures i) (found.before.delay-ticks.ensures i) a.b (choice_of a.c))
+    c.wait-after2.ensures ∙ (λ i. wait_after (found.is-busy.ensures i) (found.before.delay-ticks.ensures i) a.b (choice_of a.c))
 
 -- whether the switch comes
-switch-is : (c : tie.After-both)
+switch_is : (c : tie.After-both)
     → let start = c.before.before.before.before.before.before.before.before in
     let a = start.args in
     let n = delayed start in
-    c.both.result ≡ (not (blocked start) && switches n (waitAfter (blocked start) n a.b (choice_of a.c)))
-switch-is c =
+    c.both.result ≡ (not (blocked start) && switches n (wait_after (blocked start) n a.b (choice_of a.c)))
+switch_is c =
     let waited = c.before.before in
     let found = waited.before in
     c.both.ensures
     ∙ (λ i. not (found.is-busy.ensures i) && c.before.switches2.ensures i)
-    ∙ (λ i. not (blocked found.before.before.before.before.before) && switches (found.before.delay-ticks.ensures i) (wait-is waited i))
+    ∙ (λ i. not (blocked found.before.before.before.before.before) && switches (found.before.delay-ticks.ensures i) (wait_is waited i))
 
 returns-2 : tie.Need-returns-2
 unfolding reverted
-returns-2 c below = rw (sym (switch-is c.before.before) ∙ c.before.if2.true) c.settled.ensures
+returns-2 c below = rw (sym (switch_is c.before.before) ∙ c.before.if2.true) c.settled.ensures
 
 returns-3 : tie.Need-returns-3
 unfolding reverted
@@ -77,11 +77,11 @@ returns-3 c below =
     let tested = c.before.before in
     let waited = tested.before.before in
     let a = waited.before.before.before.before.before.before.args in
-    rw (sym (switch-is tested) ∙ c.before.if2.false)
-    (c.waiting2.ensures ∙ (λ i. record { selected = a.c.selected; wait = wait-is waited i; awaited = a.b }))
+    rw (sym (switch_is tested) ∙ c.before.if2.false)
+    (c.waiting2.ensures ∙ (λ i. record { selected = a.c.selected; wait = wait_is waited i; awaited = a.b }))
 
-pub reverted-spec : {M : Type 1} → statement M
-reverted-spec =
+pub reverted_spec : {M : Type 1} → statement M
+reverted_spec =
     tie.close
     (tie.spec
     (λ c κs. tt)

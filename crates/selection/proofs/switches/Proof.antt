@@ -10,5 +10,5 @@ returns : tie.Need-returns
 unfolding switches
 returns c = ap (leb c.before.args.n) c.less_one.ensures
 
-pub switches-spec : {M : Type 1} → statement M
-switches-spec = tie.close (tie.spec (search rules) returns)
+pub switches_spec : {M : Type 1} → statement M
+switches_spec = tie.close (tie.spec (search rules) returns)

@@ -1,4 +1,4 @@
--- The wait: one that counts for another best, or for none, is a wait of 0 that rises (`by-waited`).
+-- The wait: one that counts for another best, or for none, is a wait of 0 that rises (`by_waited`).
 use Prim.Native.Nat.{ℕ, ◌+◌, ◌<◌, min}
 use mathlib.Core.Path.{◌≡◌, refl, ap, sym, ◌∙◌}
 use mathlib.Core.Bool.{Bool, true, false, not, ◌&&◌, ◌||◌}
@@ -7,39 +7,39 @@ use lib.Dec.{leb, ltb, eqb}
 use borrow.Author.Rules.{rules}
 use borrow.Author.Tests.{ltb-true, ltb-false, le-leb, lt-leb, eqb-true}
 use Rattle.rules.specs.Words.{if◌then◌else◌}
-use Rattle.rules.specs.Selection.{Choice, waitLimit, waitAfter}
-use Rattle.rules.proofs.Tests.{if-case, by-test, or-true, and-false}
+use Rattle.rules.specs.Selection.{Choice, wait_limit, wait_after}
+use Rattle.rules.proofs.Tests.{if_case, by_test, or_true, and_false}
 use Rattle.selection.specs.Bridge.{choice_of}
 use Rattle.selection.proofs.wait_after.Statement.{statement}
 use Rattle.selection.proofs.wait_after.Tie as tie
 
 -- the wait with a tick, of one that stands at w
 abbrev risen : Bool → ℕ → ℕ → ℕ
-risen blocked n w = min waitLimit (if blocked && leb (n + 1) w then w else w + 1)
+risen blocked n w = min wait_limit (if blocked && leb (n + 1) w then w else w + 1)
 
 -- a wait of 0 rises, in a window too
-from-none : (blocked : Bool) (n : ℕ) → 1 ≡ risen blocked n 0
-from-none blocked n = rw (lt-leb (n + 1) 0 (omega arith), and-false blocked) refl
+from_none : (blocked : Bool) (n : ℕ) → 1 ≡ risen blocked n 0
+from_none blocked n = rw (lt-leb (n + 1) 0 (omega arith), and_false blocked) refl
 
 -- the rule, by the ticks waited for the same best
-by-waited : (blocked : Bool) (n b : ℕ) (c : Choice) → waitAfter blocked n b c ≡ risen blocked n (if eqb c.awaited b then c.wait else 0)
-unfolding waitAfter
-by-waited blocked n b c =
-    by-test (eqb c.awaited b)
+by_waited : (blocked : Bool) (n b : ℕ) (c : Choice) → wait_after blocked n b c ≡ risen blocked n (if eqb c.awaited b then c.wait else 0)
+unfolding wait_after
+by_waited blocked n b c =
+    by_test (eqb c.awaited b)
     (λ same. rw same
-    (by-test (eqb c.wait 0)
-    (λ none. rw (none, eqb-true c.wait 0 none) (from-none blocked n))
+    (by_test (eqb c.wait 0)
+    (λ none. rw (none, eqb-true c.wait 0 none) (from_none blocked n))
     (λ some. rw some refl)))
-    (λ other. rw (other, or-true (eqb c.wait 0)) (from-none blocked n))
+    (λ other. rw (other, or_true (eqb c.wait 0)) (from_none blocked n))
 
 -- "below n + 1"
 above : (n w : ℕ) → leb (n + 1) w ≡ ltb n w
 above n w =
-    by-test (ltb n w) (λ e. le-leb (n + 1) w (omega (arith, ltb-true n w e)) ∙ sym e) (λ e. lt-leb (n + 1) w (omega (arith, ltb-false n w e)) ∙ sym e)
+    by_test (ltb n w) (λ e. le-leb (n + 1) w (omega (arith, ltb-true n w e)) ∙ sym e) (λ e. lt-leb (n + 1) w (omega (arith, ltb-false n w e)) ∙ sym e)
 
 -- the rule, by what the code has waited
-rule : (c : tie.After-waited) → let a = c.before.args in waitAfter a.blocked a.n a.b (choice_of a.c) ≡ risen a.blocked a.n c.waited.result
-rule c = let a = c.before.args in by-waited a.blocked a.n a.b (choice_of a.c) ∙ ap (risen a.blocked a.n) (sym c.waited.ensures)
+rule : (c : tie.After-waited) → let a = c.before.args in wait_after a.blocked a.n a.b (choice_of a.c) ≡ risen a.blocked a.n c.waited.result
+rule c = let a = c.before.args in by_waited a.blocked a.n a.b (choice_of a.c) ∙ ap (risen a.blocked a.n) (sym c.waited.ensures)
 
 -- the test of the code is that of the rule
 tested : (c : tie.After-both)
@@ -53,14 +53,14 @@ returns : tie.Need-returns
 returns c =
     let known = c.before.before.before in
     let w = known.waited.result in
-    let stays : min waitLimit w ≡ w = omega (arith, c.before.before.if1.true) in
+    let stays : min wait_limit w ≡ w = omega (arith, c.before.before.if1.true) in
     sym (rule known ∙ rw (tested c.before, c.if2.true) stays)
 
 returns-2 : tie.Need-returns-2
 returns-2 c =
     let known = c.before.before.before in
     let w = known.waited.result in
-    let rises : min waitLimit (w + 1) ≡ w + 1 = omega (arith, c.before.before.if1.true) in
+    let rises : min wait_limit (w + 1) ≡ w + 1 = omega (arith, c.before.before.if1.true) in
     sym (rule known ∙ rw (tested c.before, c.if2.false) rises)
 
 returns-3 : tie.Need-returns-3
@@ -68,7 +68,7 @@ returns-3 c =
     let known = c.before in
     let a = known.before.args in
     let w = known.waited.result in
-    sym (rule known ∙ if-case (λ m. min waitLimit m ≡ waitLimit) (a.blocked && leb (a.n + 1) w) (λ _. omega (arith, c.if1.false)) (λ _. omega (arith, c.if1.false)))
+    sym (rule known ∙ if_case (λ m. min wait_limit m ≡ wait_limit) (a.blocked && leb (a.n + 1) w) (λ _. omega (arith, c.if1.false)) (λ _. omega (arith, c.if1.false)))
 
-pub wait-after-spec : {M : Type 1} → statement M
-wait-after-spec = tie.close (tie.spec (search rules) (search rules) returns (search rules) returns-2 returns-3)
+pub wait_after_spec : {M : Type 1} → statement M
+wait_after_spec = tie.close (tie.spec (search rules) (search rules) returns (search rules) returns-2 returns-3)

@@ -11,5 +11,5 @@ returns-2 c =
     let a = c.before.before.args in
     (sym (get_or-eq_default a.s.now 0 {n = a.at} c.if1.false), omega arith)
 
-pub byte-at-spec : {M : Type 1} → statement M
-byte-at-spec = tie.close (tie.spec (search rules) (search rules) (search rules) returns-2)
+pub byte_at_spec : {M : Type 1} → statement M
+byte_at_spec = tie.close (tie.spec (search rules) (search rules) (search rules) returns-2)

@@ -2,8 +2,8 @@
 use mathlib.Core.List.{List}
 use lib.IntN.{ℤ, pos}
 use lib.ListN.{replicate}
-use Rattle.rules.specs.Registers.{fresh, freshWith}
-use Rattle.rules.specs.Week.{freshWeek}
+use Rattle.rules.specs.Registers.{fresh, fresh_with}
+use Rattle.rules.specs.Week.{fresh_week}
 use Rattle.state.proofs.fresh.Statement.{statement}
 use Rattle.state.proofs.fresh.Tie as tie
 
@@ -12,7 +12,7 @@ abbrev zeros : List ℤ
 zeros = replicate 64 (pos 0)
 
 returns : tie.Need-returns
-unfolding fresh freshWith freshWeek
+unfolding fresh fresh_with fresh_week
 returns c =
     let windows = c.before in
     let sets = windows.before in
@@ -31,6 +31,6 @@ returns c =
       week = record { place = 0; windows = windows.no-windows.ensures i };
     }
 
-pub fresh-spec : {M : Type 1} → statement M
-fresh-spec =
+pub fresh_spec : {M : Type 1} → statement M
+fresh_spec =
     tie.close (tie.spec (λ c κs. tt) (λ c κs. tt) (λ c κs. tt) (λ c κs. tt) (λ c κs. tt) (λ c κs. tt) (λ c κs. tt) returns)

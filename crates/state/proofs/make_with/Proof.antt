@@ -2,8 +2,8 @@
 use mathlib.Core.List.{List}
 use lib.IntN.{ℤ, pos}
 use lib.ListN.{replicate}
-use Rattle.rules.specs.Registers.{fresh, freshWith, settingsFrom}
-use Rattle.rules.specs.Week.{freshWeek}
+use Rattle.rules.specs.Registers.{fresh, fresh_with, settings_from}
+use Rattle.rules.specs.Week.{fresh_week}
 use Rattle.state.proofs.make_with.Statement.{statement}
 use Rattle.state.proofs.make_with.Tie as tie
 
@@ -12,7 +12,7 @@ abbrev zeros : List ℤ
 zeros = replicate 64 (pos 0)
 
 returns : tie.Need-returns
-unfolding fresh freshWith freshWeek
+unfolding fresh fresh_with fresh_week
 returns c =
     let choice = c.before in
     let tally = choice.before in
@@ -22,7 +22,7 @@ returns c =
     λ i. record {
       inputs = rows.fresh-monitors.ensures i;
       buckets = sets.fresh-buckets.ensures i;
-      settings = settingsFrom rows.before.args.values.now;
+      settings = settings_from rows.before.args.values.now;
       loop = c.fresh-loop.ensures i;
       choice = choice.settled.ensures i;
       history = tally.fresh-tally.ensures zeros zeros zeros i;
@@ -30,6 +30,6 @@ returns c =
       week = record { place = 0; windows = windows.no-windows.ensures i };
     }
 
-pub make-with-spec : {M : Type 1} → statement M
-make-with-spec =
+pub make_with_spec : {M : Type 1} → statement M
+make_with_spec =
     tie.close (tie.spec (λ c κs. tt) (λ c κs. tt) (λ c κs. tt) (λ c κs. tt) (λ c κs. tt) (λ c κs. tt) returns)

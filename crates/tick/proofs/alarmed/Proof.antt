@@ -16,5 +16,5 @@ returns-2 c m =
     let due = b.both.ensures ∙ (λ i. b.before.before.is-tracked.ensures i && b.before.alarm-due.ensures i) in
     rw (sym due ∙ c.if1.false) refl
 
-pub alarmed-spec : {M : Type 1} → statement M
-alarmed-spec = tie.close (tie.spec (λ c κs. tt) (λ c κs. tt) (λ c κs. tt) (λ c κs. tt) returns returns-2)
+pub alarmed_spec : {M : Type 1} → statement M
+alarmed_spec = tie.close (tie.spec (λ c κs. tt) (λ c κs. tt) (λ c κs. tt) (λ c κs. tt) returns returns-2)

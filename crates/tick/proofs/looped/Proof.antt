@@ -9,5 +9,5 @@ returns c = rw (← c.before.before.is-tracked.ensures, c.before.if1.true) c.loo
 returns-2 : tie.Need-returns-2
 returns-2 c = rw (← c.before.is-tracked.ensures, c.if1.false) refl
 
-pub looped-spec : {M : Type 1} → statement M
-looped-spec = tie.close (tie.spec (λ c κs. tt) (λ c κs. tt) returns returns-2)
+pub looped_spec : {M : Type 1} → statement M
+looped_spec = tie.close (tie.spec (λ c κs. tt) (λ c κs. tt) returns returns-2)

@@ -4,8 +4,8 @@ use mathlib.Core.Path.{◌≡◌}
 use mir.Syntax.{w16, w32}
 use mir.Val.{to_z, of_z}
 use borrow.Author.Rules.{rules}
-use Rattle.rules.specs.Events.{tickWith, measurement}
-use Rattle.waits.proofs.Floor.{floor-le}
+use Rattle.rules.specs.Events.{tick_with, measurement}
+use Rattle.waits.proofs.Floor.{floor_le}
 use Rattle.state.specs.Stored.{Stored}
 use Rattle.unit.proofs.Given.{same-event}
 use Rattle.unit.proofs.handle.Statement.{statement}
@@ -48,11 +48,11 @@ returns c =
     let known = numbered.before.before.before in
     let told = known.before in
     rw told.e.given.1
-    (same-event (λ i. tickWith told.e.given.0.0 told.e.given.0.1.0 (sample known i))
+    (same-event (λ i. tick_with told.e.given.0.0 told.e.given.0.1.0 (sample known i))
     (c.on-tick.ensures (found told.before.before)
     (record {
       lanes = numbered.Numbers-of.ensures;
-      follows = record { keyed = keyed.keys_of.ensures; delayed = rw (floored.delay-floor.ensures, read.setting.ensures) (floor-le _) };
+      follows = record { keyed = keyed.keys_of.ensures; delayed = rw (floored.delay-floor.ensures, read.setting.ensures) (floor_le _) };
     })))
 
 returns-2 : tie.Need-returns-2
@@ -73,8 +73,8 @@ returns-4 c =
     let told = w.before.before.before.before.before.before.before.before in
     rw told.e3.given.1 (w.write.ensures.0 (found told.before.before))
 
-pub handle-spec : {M : Type 1} → statement M
-handle-spec =
+pub handle_spec : {M : Type 1} → statement M
+handle_spec =
     tie.close
     (tie.spec
     (search rules)

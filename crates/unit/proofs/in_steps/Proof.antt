@@ -11,5 +11,5 @@ mul-result c = record { fits = omega (arith, c.wide16.ensures.1) }
 returns : tie.Need-returns
 returns c = ap (λ n. 32 * n) c.wide16.ensures.0
 
-pub in-steps-spec : {M : Type 1} → statement M
-in-steps-spec = tie.close (tie.spec (λ c κs. tt) mul-result returns)
+pub in_steps_spec : {M : Type 1} → statement M
+in_steps_spec = tie.close (tie.spec (λ c κs. tt) mul-result returns)

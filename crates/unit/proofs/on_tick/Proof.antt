@@ -6,7 +6,7 @@ use lib.IntN.{ℤ, nat_abs}
 use mir.Syntax.{w32}
 use mir.Val.{to_z, of_z}
 use mir.Facts.{to_z-of_z}
-use Rattle.rules.specs.Events.{tickWith, sampleLimit}
+use Rattle.rules.specs.Events.{tick_with, sample_limit}
 use Rattle.rules.specs.Refusals.{refusal}
 use Rattle.rules.specs.Run.{effect}
 use Rattle.unit.proofs.Given.{accepted, turned_down, same-event}
@@ -20,16 +20,16 @@ returns c s handed =
     let start = t.before.before.before in
     let a = start.args in
     let told = to_z-of_z start.ranges.x in
-    same-event (λ i. tickWith a.mask a.lock (told i))
-    (accepted _ _ (tickWith a.mask a.lock (to_z w32 (of_z w32 a.x)))
+    same-event (λ i. tick_with a.mask a.lock (told i))
+    (accepted _ _ (tick_with a.mask a.lock (to_z w32 (of_z w32 a.x)))
     (rw (← t.before.before.in-range.ensures, t.before.if1.true) refl) refl (c.tick.ensures s (record { lanes = handed.lanes; follows = handed.follows })))
 
 returns-2 : tie.Need-returns-2
 unfolding refusal
 returns-2 c s handed =
     let a = c.before.before.args in
-    turned_down _ (tickWith a.mask a.lock a.x)
-    (rw (← ap (λ (x : ℤ). leb (nat_abs x) sampleLimit) (to_z-of_z c.before.before.ranges.x), ← c.before.in-range.ensures, c.if1.false) refl) (λ z. omega arith)
+    turned_down _ (tick_with a.mask a.lock a.x)
+    (rw (← ap (λ (x : ℤ). leb (nat_abs x) sample_limit) (to_z-of_z c.before.before.ranges.x), ← c.before.in-range.ensures, c.if1.false) refl) (λ z. omega arith)
 
-pub on-tick-spec : {M : Type 1} → statement M
-on-tick-spec = tie.close (tie.spec (λ c κs. tt) (λ c κs. tt) returns returns-2)
+pub on_tick_spec : {M : Type 1} → statement M
+on_tick_spec = tie.close (tie.spec (λ c κs. tt) (λ c κs. tt) returns returns-2)

@@ -3,8 +3,8 @@ use mathlib.Core.Path.{◌≡◌}
 use mir.Syntax.{w16, w32}
 use mir.Val.{to_z, of_z}
 use borrow.Author.Rules.{rules}
-use Rattle.rules.specs.Events.{tickWith, measurement}
-use Rattle.state.specs.Stored.{Stored, withCore, withRows, withRegisters, withWindows, withSums, withBuilding, withBackup}
+use Rattle.rules.specs.Events.{tick_with, measurement}
+use Rattle.state.specs.Stored.{Stored, with_core, with_rows, with_registers, with_windows, with_sums, with_building, with_backup}
 use Rattle.unit.proofs.Given.{same-event}
 use Rattle.unit.proofs.step.Statement.{statement}
 use Rattle.unit.proofs.step.Tie as tie
@@ -13,8 +13,8 @@ use Rattle.unit.proofs.step.Tie as tie
 abbrev found : tie.Start → Stored → Stored
 found c s =
     let a = c.args in
-    withCore a.k
-    (withRows (record {
+    with_core a.k
+    (with_rows (record {
       level = a.level.now;
       decay = a.decay.now;
       activity = a.activity.now;
@@ -22,8 +22,8 @@ found c s =
       remainder = a.remainder.now;
       soak = a.soak.now;
     })
-    (withRegisters a.regs.now
-    (withWindows a.windows.now (withSums a.sums.now (withBuilding a.building.now (withBackup a.backup.now s))))))
+    (with_registers a.regs.now
+    (with_windows a.windows.now (with_sums a.sums.now (with_building a.building.now (with_backup a.backup.now s))))))
 
 -- a tick's sample, as the machine has it
 sample : (c : tie.After-known-told) → let x = c.before.e.given.0.1.1.0 in to_z w32 (of_z w32 x) ≡ x
@@ -40,8 +40,8 @@ returns c =
     let a = told.before.before.args in (
       (λ s handed.
           rw told.e.given.1
-          (same-event (λ i. tickWith told.e.given.0.0 told.e.given.0.1.0 (sample known i))
-          (c.on-tick.ensures (withBackup a.backup.now s) (record { lanes = handed.lanes; follows = handed.follows })))),
+          (same-event (λ i. tick_with told.e.given.0.0 told.e.given.0.1.0 (sample known i))
+          (c.on-tick.ensures (with_backup a.backup.now s) (record { lanes = handed.lanes; follows = handed.follows })))),
       (λ follows. follows),
     )
 

@@ -2,35 +2,35 @@
 use mathlib.Core.Path.{refl, ◌∙◌}
 use borrow.Author.Tests.{eq-eqb, ne_eqb}
 use Rattle.rules.specs.Words.{if◌then◌else◌}
-use Rattle.rules.specs.Registers.{written, settingsFrom}
-use Rattle.rules.specs.Run.{afterWrite}
-use Rattle.rules.specs.State.{withHistory, withSettings}
-use Rattle.state.specs.Stored.{meaning, withTally, withRegisters, withSums, withBuilding, withBackup}
+use Rattle.rules.specs.Registers.{written, settings_from}
+use Rattle.rules.specs.Run.{after_write}
+use Rattle.rules.specs.State.{with_history, with_settings}
+use Rattle.state.specs.Stored.{meaning, with_tally, with_registers, with_sums, with_building, with_backup}
 use Rattle.unit.proofs.write_accepted.Statement.{statement}
 use Rattle.unit.proofs.write_accepted.Tie as tie
 
 returns : tie.Need-returns
-unfolding afterWrite
+unfolding after_write
 returns c =
     let a = c.before.before.before.before.before.args in
     let command = eq-eqb a.a 0x26 c.before.before.before.before.if1.true in (
-      (λ s known. rw command (λ i. withHistory (c.commanded.ensures i) (meaning (withRegisters a.regs.now s)))),
+      (λ s known. rw command (λ i. with_history (c.commanded.ensures i) (meaning (with_registers a.regs.now s)))),
       (λ known. rw command refl),
     )
 
 returns-2 : tie.Need-returns-2
-unfolding afterWrite
+unfolding after_write
 returns-2 c =
     let a = c.before.before.before.args in
-    let set = settingsFrom a.regs.now in
+    let set = settings_from a.regs.now in
     let other = ne_eqb a.a 0x26 c.before.before.if1.false in (
       (λ s known.
           rw other
           (λ i.
-          withSettings ((c.written.ensures ∙ (λ j. if known j then written a.a a.v set else set)) i)
-          (meaning (withTally a.t (withSums a.sums.now (withBuilding a.building.now (withBackup a.backup.now s))))))),
+          with_settings ((c.written.ensures ∙ (λ j. if known j then written a.a a.v set else set)) i)
+          (meaning (with_tally a.t (with_sums a.sums.now (with_building a.building.now (with_backup a.backup.now s))))))),
       (λ known. rw other (c.written.ensures ∙ (λ j. if known j then written a.a a.v set else set))),
     )
 
-pub write-accepted-spec : {M : Type 1} → statement M
-write-accepted-spec = tie.close (tie.spec (λ c κs. tt) returns (λ c κs. tt) returns-2)
+pub write_accepted_spec : {M : Type 1} → statement M
+write_accepted_spec = tie.close (tie.spec (λ c κs. tt) returns (λ c κs. tt) returns-2)

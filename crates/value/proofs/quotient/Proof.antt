@@ -8,5 +8,5 @@ use Rattle.value.proofs.quotient.Tie as tie
 returns : tie.Need-returns
 returns c = rw c.if1.true (sym (div-zero c.before.args.m))
 
-pub quotient-spec : {M : Type 1} → statement M
-quotient-spec = tie.close (tie.spec returns (search rules) (search rules))
+pub quotient_spec : {M : Type 1} → statement M
+quotient_spec = tie.close (tie.spec returns (search rules) (search rules))

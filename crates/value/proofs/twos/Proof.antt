@@ -21,5 +21,5 @@ returns-2 c =
     let p = c.before.before.split in
     (λ i. twos (by_sign (sym c.if1.false i) p.result.n)) ∙ ap twos (p.ensures ∙ to_z-of_z s.ranges.z)
 
-pub twos-spec : {M : Type 1} → statement M
-twos-spec = tie.close (tie.spec (search rules) (search rules) (search rules) returns (search rules) returns-2)
+pub twos_spec : {M : Type 1} → statement M
+twos_spec = tie.close (tie.spec (search rules) (search rules) (search rules) returns (search rules) returns-2)

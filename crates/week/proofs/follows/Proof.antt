@@ -8,5 +8,5 @@ use Rattle.week.proofs.follows.Tie as tie
 returns : tie.Need-returns
 returns c = c.both2.ensures ∙ ap (λ b. leb c.before.before.args.from c.before.before.args.start && b) c.before.both.ensures
 
-pub follows-spec : {M : Type 1} → statement M
-follows-spec = tie.close (tie.spec (λ c κs. tt) (λ c κs. tt) returns)
+pub follows_spec : {M : Type 1} → statement M
+follows_spec = tie.close (tie.spec (λ c κs. tt) (λ c κs. tt) returns)

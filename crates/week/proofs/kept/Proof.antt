@@ -7,20 +7,20 @@ use lib.Seq.{ext_get_or, get_or-set_same, get_or-set_other}
 use borrow.Author.Rules.{rules}
 use Rattle.rules.proofs.Tests.{one_more}
 use Rattle.week.specs.Bridge.{kept_at}
-use Rattle.week.proofs.Storing.{length-listed, listed_at}
+use Rattle.week.proofs.Storing.{length_listed, listed_at}
 use Rattle.week.proofs.kept.Statement.{statement}
 use Rattle.week.proofs.kept.Tie as tie
 
-abbrev invariant-loop : tie.invariant-loop
-invariant-loop count windows n stored₀ k₀ stored k = (k ≤ 16) × (length stored ≡ 16) × ((j : ℕ) → j < k → get_or stored j 0 ≡ kept_at n windows j)
+abbrev invariant_loop : tie.invariant_loop
+invariant_loop count windows n stored₀ k₀ stored k = (k ≤ 16) × (length stored ≡ 16) × ((j : ℕ) → j < k → get_or stored j 0 ≡ kept_at n windows j)
 
-abbrev decreases-loop : tie.decreases-loop
-decreases-loop count windows n stored₀ k₀ stored k = 16 - k
+abbrev decreases_loop : tie.decreases_loop
+decreases_loop count windows n stored₀ k₀ stored k = 16 - k
 
-loop-holds : tie.Need-loop-init invariant-loop decreases-loop
+loop-holds : tie.Need-loop-init invariant_loop decreases_loop
 loop-holds c = (omega arith, refl, λ j h. absurd (omega (arith, h)))
 
-loop-again : tie.Need-loop-preserved invariant-loop decreases-loop
+loop-again : tie.Need-loop-preserved invariant_loop decreases_loop
 loop-again c =
     let inside = c.before.before in
     let at-loop = inside.before in
@@ -34,15 +34,15 @@ loop-again c =
           (get_or-set_same l.stored l.k v 0 (omega (arith, l.invariant.1, inside.loop-test.true)) ∙ c.if_kept.ensures),
     )
 
-returns : tie.Need-returns invariant-loop decreases-loop
+returns : tie.Need-returns invariant_loop decreases_loop
 returns c =
     let l = c.before.loop in
     let known = c.before.before in
     let a = known.before.args in
     let kept = kept_at (2 * a.count) a.windows.now in
-    ext_get_or 0 l.stored _ (l.invariant.1 ∙ sym (length-listed 16 kept))
+    ext_get_or 0 l.stored _ (l.invariant.1 ∙ sym (length_listed 16 kept))
     (λ j h. l.invariant.2 j (omega (arith, h, l.invariant.1, c.loop-test.false)) ∙ ap (λ (n : ℕ). kept_at (2 * n) a.windows.now j) known.wide64.ensures.0
     ∙ sym (listed_at 16 kept 0 j (omega (arith, h, l.invariant.1))))
 
-pub kept-spec : {M : Type 1} → statement M
-kept-spec = tie.close (tie.spec invariant-loop decreases-loop (λ c κs. tt) (search rules) loop-holds (search rules) (search rules) (λ c κs. tt) (search rules) (search rules) (search rules) (search rules) loop-again returns)
+pub kept_spec : {M : Type 1} → statement M
+kept_spec = tie.close (tie.spec invariant_loop decreases_loop (λ c κs. tt) (search rules) loop-holds (search rules) (search rules) (λ c κs. tt) (search rules) (search rules) (search rules) (search rules) loop-again returns)

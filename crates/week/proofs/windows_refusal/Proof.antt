@@ -3,7 +3,7 @@ use mathlib.Core.Path.{sym, ◌∙◌}
 use borrow.Author.Rules.{rules}
 use borrow.Author.Tests.{not-false}
 use Rattle.rules.proofs.Tests.{not-true}
-use Rattle.week.proofs.Windows.{too_many, not-ascending, around, none-wrong}
+use Rattle.week.proofs.Windows.{too_many, not_ascending, around, none_wrong}
 use Rattle.week.proofs.windows_refusal.Statement.{statement}
 use Rattle.week.proofs.windows_refusal.Tie as tie
 
@@ -13,7 +13,7 @@ returns c = too_many c.before.args.count c.before.args.windows.now c.if1.true
 returns-2 : tie.Need-returns-2
 returns-2 c =
     let a = c.before.before.before.args in
-    not-ascending a.count a.windows.now (sym c.before.ascends.ensures ∙ not-true _ c.if2.true)
+    not_ascending a.count a.windows.now (sym c.before.ascends.ensures ∙ not-true _ c.if2.true)
 
 returns-3 : tie.Need-returns-3
 returns-3 c =
@@ -25,8 +25,8 @@ returns-4 c =
     let passed = c.before.before in
     let few = passed.before.before in
     let a = few.before.args in
-    none-wrong a.count a.windows.now few.if1.false (sym passed.before.ascends.ensures ∙ not-false _ passed.if2.false)
+    none_wrong a.count a.windows.now few.if1.false (sym passed.before.ascends.ensures ∙ not-false _ passed.if2.false)
     (sym c.before.meets-itself.ensures ∙ c.if3.false)
 
-pub windows-refusal-spec : {M : Type 1} → statement M
-windows-refusal-spec = tie.close (tie.spec returns (search rules) returns-2 (search rules) returns-3 returns-4)
+pub windows_refusal_spec : {M : Type 1} → statement M
+windows_refusal_spec = tie.close (tie.spec returns (search rules) returns-2 (search rules) returns-3 returns-4)

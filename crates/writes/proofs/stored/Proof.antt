@@ -12,5 +12,5 @@ returns-2 : tie.Need-returns-2
 unfolding rules.stored
 returns-2 c = rw (lt-leb _ _ c.if1.false)
 
-pub stored-spec : {M : Type 1} → statement M
-stored-spec = tie.close (tie.spec returns returns-2)
+pub stored_spec : {M : Type 1} → statement M
+stored_spec = tie.close (tie.spec returns returns-2)

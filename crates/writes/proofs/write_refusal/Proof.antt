@@ -2,12 +2,12 @@
 use borrow.Author.Rules.{rules}
 use Rattle.rules.specs.Registers.{read_only, largest}
 use Rattle.registers.specs.Bridge.{row}
-use Rattle.rules.specs.Refusals.{writeRefusal}
+use Rattle.rules.specs.Refusals.{write_refusal}
 use Rattle.writes.proofs.write_refusal.Statement.{statement}
 use Rattle.writes.proofs.write_refusal.Tie as tie
 
 returns : tie.Need-returns
-unfolding writeRefusal read_only largest row
+unfolding write_refusal read_only largest row
 returns c =
     let d = c.before.before.before.before in
     rw (
@@ -18,8 +18,8 @@ returns c =
       c.before.command-refused.ensures,
     )
 
-pub write-refusal-spec : {M : Type 1} → statement M
-write-refusal-spec =
+pub write_refusal_spec : {M : Type 1} → statement M
+write_refusal_spec =
     tie.close
     (tie.spec
     (search rules)
