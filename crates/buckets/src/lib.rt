@@ -106,7 +106,7 @@ fn bytes_of(row: Row, unit: u16) -> Row
 }
 
 // For each input the numbers of its set: sizes, set levels, clear levels, and last decay counts.
-#[derive(Drop)]
+#[derive(Clone, Copy)]
 pub struct Numbers {
     pub sizes: Row,
     pub highs: Row,

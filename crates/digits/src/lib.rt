@@ -43,7 +43,7 @@ fn digit(d: u8) -> u8
 
 // A number's digits at the end of 25 columns, and where the first stands; the columns before it are blank. A number has at most 20 digits, which leaves five
 // blanks for those who take more columns than it has digits.
-#[derive(Drop)]
+#[derive(Clone, Copy)]
 pub struct Digits {
     pub columns: [u8; 25],
     pub start: usize,

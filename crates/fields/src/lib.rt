@@ -9,7 +9,7 @@ use arith::{both, wide16};
 use unit::Event;
 
 // What the fields are: an event, or none.
-#[derive(Drop)]
+#[derive(Clone, Copy)]
 pub enum Decoded {
     Event(Event),
     Bad,

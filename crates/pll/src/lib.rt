@@ -32,7 +32,7 @@ const HOLDING_LIMIT: u32 = 7_171_875;
 // The unlock run, the state's number and the lock run. Wider than they need be: three numbers of one width leave no padding, and a struct whose size is a power
 // of two up to 8 bytes would be passed as one number, its fields cut out by shifts.
 #[repr(C)]
-#[derive(Drop)]
+#[derive(Clone, Copy)]
 pub struct Loop {
     pub unlock: u32,
     pub mode: u32,

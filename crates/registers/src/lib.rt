@@ -27,7 +27,7 @@ pub const REJECT_SLOT: usize = 16;
 pub const QUALIFICATION_SLOT: usize = 17;
 
 // A row of the table: the columns Fresh, R and Largest.
-#[derive(Drop)]
+#[derive(Clone, Copy)]
 pub struct Register {
     pub fresh: u8,
     pub readonly: bool,

@@ -26,7 +26,7 @@ const WAIT_LIMIT: u32 = 119_534;
 
 // What is selected, and the ticks waited for `awaited`, the best that they count for. Three numbers of one width: see `Loop` of crates/pll.
 #[repr(C)]
-#[derive(Drop)]
+#[derive(Clone, Copy)]
 pub struct Choice {
     pub wait: u32,
     pub selected: u32,

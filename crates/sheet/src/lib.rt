@@ -80,7 +80,7 @@ fn events_good(part: &[u8], n: usize) -> bool
 // ---- the counts
 
 // How many settings and events a sheet has.
-#[derive(Drop)]
+#[derive(Clone, Copy)]
 pub struct Counts {
     pub settings: usize,
     pub events: usize,

@@ -17,7 +17,7 @@ use week::Windows;
 // The numbers that are in no array, which an event takes and gives by value: the history's tally, the choice, the ticks in Holdover, the place in the week, and
 // the PLL.
 #[repr(C)]
-#[derive(Drop)]
+#[derive(Clone, Copy)]
 pub struct Core {
     pub tally: Tally,
     pub choice: Choice,

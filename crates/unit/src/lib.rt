@@ -25,7 +25,7 @@ use state::Core;
 use week::Windows;
 
 // The four events.
-#[derive(Drop)]
+#[derive(Clone, Copy)]
 pub enum Event {
     // irregular mask, lock flag, sample
     Tick(u8, bool, i32),
@@ -37,7 +37,7 @@ pub enum Event {
 }
 
 // What an event gives, with the arrays lent: its refusal number, 0 if it is accepted, and the core.
-#[derive(Drop)]
+#[derive(Clone, Copy)]
 pub struct Stepped {
     pub refusal: u8,
     pub core: Core,

@@ -13,7 +13,7 @@ use history::{Sums, Tally, within};
 // ---- whole numbers
 
 // A whole number by its sign: n, or -(n + 1) below 0.
-#[derive(Drop)]
+#[derive(Clone, Copy)]
 struct Parts {
     below: bool,
     n: u64,

@@ -1,0 +1,6 @@
+-- `is_automatic` meets its contract, by what `setting` ensures.
+use borrow.Author.Rules.{rules}
+use Rattle.registers.proofs.is_automatic.Goals as goal
+
+pub returns : goal.returns
+returns c = rw c.setting.ensures
