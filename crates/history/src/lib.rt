@@ -10,7 +10,7 @@ use arith::is_counted;
 
 // What a tick changes of the history.
 #[repr(C)]
-#[derive(Drop)]
+#[derive(Clone, Copy)]
 pub struct Tally {
     // The open block: its sum, and how many samples it has.
     pub open: i64,
@@ -39,7 +39,7 @@ pub struct History {
 }
 
 // What step 5 gives of the tally: the tally, whether a block is done, and if so its sum, which is to join the history that fills.
-#[derive(Drop)]
+#[derive(Clone, Copy)]
 struct Update {
     tally: Tally,
     done: bool,

@@ -9,21 +9,21 @@ use Rattle.week.proofs.is_busy.Goals as goal
 pub returns : goal.returns
 unfolding in_window busy windows_from
 returns c =
-    let b2 = c in
-    let b3 = b2 in
-    let b4 = b3 in
-    let b5 = b4 in
-    let b6 = b5 in
-    let b7 = b6 in
-    let w8 = b7 in
-    let w7 = w8 in
-    let w6 = w7 in
-    let w5 = w6 in
-    let w4 = w5 in
-    let w3 = w4 in
-    let w2 = w3 in
-    let w1 = w2 in
-    let start = w1 in
+    let b2 = c.before in
+    let b3 = b2.before in
+    let b4 = b3.before in
+    let b5 = b4.before in
+    let b6 = b5.before in
+    let b7 = b6.before in
+    let w8 = b7.before in
+    let w7 = w8.before in
+    let w6 = w7.before in
+    let w5 = w6.before in
+    let w4 = w5.before in
+    let w3 = w4.before in
+    let w2 = w3.before in
+    let w1 = w2.before in
+    let start = w1.before in
     let s8 = w8.in_window-8.ensures ∙ or_none _ in
     let s7 = b7.one_of_lem.ensures ∙ (λ i. w7.in_window-7.ensures i || s8 i) in
     let s6 = b6.one_of-2.ensures ∙ (λ i. w6.in_window-6.ensures i || s7 i) in

@@ -15,8 +15,8 @@ loop-k-init c = (omega arith, refl, λ j h. absurd (omega (arith, h)))
 
 pub loop-k-preserved : goal.loop-k-preserved
 loop-k-preserved c =
-    let inside = c in
-    let at-loop = inside in
+    let inside = c.before in
+    let at-loop = inside.before in
     let l = at-loop.loop-k in
     let n = 2 * at-loop.wide64-n.result in
     let v = c.if_kept.result in (
@@ -30,7 +30,7 @@ loop-k-preserved c =
 pub returns : goal.returns
 returns c =
     let l = c.loop-k in
-    let known = c in
+    let known = c.before in
     let a = known.args in
     let kept = kept_at (2 * a.count) a.windows.now in
     ext_get_or 0 l.stored _ (l.invariant.1 ∙ sym (length_listed 16 kept))

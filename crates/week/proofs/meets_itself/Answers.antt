@@ -16,8 +16,8 @@ returns-then-n-eq0 c =
 
 pub returns : goal.returns
 returns c =
-    let tested = c in
-    let known = tested in
+    let tested = c.before in
+    let known = tested.before in
     let a = known.args in
     let same = known.wide64-n.ensures.0 in
     c.both.ensures

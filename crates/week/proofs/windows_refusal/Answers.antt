@@ -21,8 +21,8 @@ returns-then-meets_itself c =
 
 pub returns : goal.returns
 returns c =
-    let passed = c in
-    let few = passed in
+    let passed = c.before in
+    let few = passed.before in
     let a = few.args in
     none_wrong a.count a.windows.now few.if-count-gt8.false (sym passed.ascends.ensures ∙ not-false _ passed.if-not-ascends.false)
     (sym c.meets_itself.ensures ∙ c.if-meets_itself.false)
