@@ -9,7 +9,7 @@ use Rattle.candidates.proofs.least_of_nine.Goals as goal
 pub returns : goal.returns
 returns c =
     let d = c.before in
-    let k = d.args.t1 in
+    let k = d.args.k in
     let ninth = d.args.ninth in
     let pair1 = d.least-a.ensures in
     let pair2 = d.least-b.ensures in
