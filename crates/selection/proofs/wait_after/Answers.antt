@@ -10,8 +10,8 @@ use Rattle.rules.specs.Words.{if◌then◌else◌}
 use Rattle.rules.specs.Selection.{Choice, wait_limit, wait_after}
 use Rattle.rules.proofs.Tests.{if_case, by_test, or_true, and_false}
 use Rattle.selection.specs.Bridge.{choice_of}
-use Rattle.selection.proofs.wait_after.Statement.{statement}
-use Rattle.selection.proofs.wait_after.Tie as tie
+use Rattle.selection.proofs.wait_after.Goals as goal
+use Rattle.selection.proofs.wait_after.Goals.{After-both, After-waited-so_far}
 
 -- the wait with a tick, of one that stands at w
 abbrev risen : Bool → ℕ → ℕ → ℕ
@@ -38,37 +38,34 @@ above n w =
     by_test (ltb n w) (λ e. le-leb (n + 1) w (omega (arith, ltb-true n w e)) ∙ sym e) (λ e. lt-leb (n + 1) w (omega (arith, ltb-false n w e)) ∙ sym e)
 
 -- the rule, by what the code has waited
-rule : (c : tie.After-waited) → let a = c.before.args in wait_after a.blocked a.n a.b (choice_of a.c) ≡ risen a.blocked a.n c.waited.result
-rule c = let a = c.before.args in by_waited a.blocked a.n a.b (choice_of a.c) ∙ ap (risen a.blocked a.n) (sym c.waited.ensures)
+rule : (c : After-waited-so_far) → let a = c.args in wait_after a.blocked a.n a.b (choice_of a.c) ≡ risen a.blocked a.n c.waited-so_far.result
+rule c = let a = c.args in by_waited a.blocked a.n a.b (choice_of a.c) ∙ ap (risen a.blocked a.n) (sym c.waited-so_far.ensures)
 
 -- the test of the code is that of the rule
-tested : (c : tie.After-both)
-    → let a = c.before.before.before.args in
-    (a.blocked && leb (a.n + 1) c.before.before.waited.result) ≡ c.both.result
+tested : (c : After-both)
+    → let a = c.args in
+    (a.blocked && leb (a.n + 1) c.waited-so_far.result) ≡ c.both.result
 tested c =
-    let a = c.before.before.before.args in
-    ap (λ (t : Bool). a.blocked && t) (above a.n c.before.before.waited.result) ∙ sym c.both.ensures
+    let a = c.args in
+    ap (λ (t : Bool). a.blocked && t) (above a.n c.waited-so_far.result) ∙ sym c.both.ensures
 
-returns : tie.Need-returns
+pub returns-then-both : goal.returns-then-both
+returns-then-both c =
+    let known = c.before.before.before in
+    let w = known.waited-so_far.result in
+    let stays : min wait_limit w ≡ w = omega (arith, c.if-so_far-lt-WAIT_LIMIT.true) in
+    sym (rule known ∙ rw (tested c.before, c.if-both.true) stays)
+
+pub returns-then-so_far-lt-WAIT_LIMIT : goal.returns-then-so_far-lt-WAIT_LIMIT
+returns-then-so_far-lt-WAIT_LIMIT c =
+    let known = c.before.before.before in
+    let w = known.waited-so_far.result in
+    let rises : min wait_limit (w + 1) ≡ w + 1 = omega (arith, c.if-so_far-lt-WAIT_LIMIT.true) in
+    sym (rule known ∙ rw (tested c.before, c.if-both.false) rises)
+
+pub returns : goal.returns
 returns c =
-    let known = c.before.before.before in
-    let w = known.waited.result in
-    let stays : min wait_limit w ≡ w = omega (arith, c.before.before.if1.true) in
-    sym (rule known ∙ rw (tested c.before, c.if2.true) stays)
-
-returns-2 : tie.Need-returns-2
-returns-2 c =
-    let known = c.before.before.before in
-    let w = known.waited.result in
-    let rises : min wait_limit (w + 1) ≡ w + 1 = omega (arith, c.before.before.if1.true) in
-    sym (rule known ∙ rw (tested c.before, c.if2.false) rises)
-
-returns-3 : tie.Need-returns-3
-returns-3 c =
     let known = c.before in
-    let a = known.before.args in
-    let w = known.waited.result in
-    sym (rule known ∙ if_case (λ m. min wait_limit m ≡ wait_limit) (a.blocked && leb (a.n + 1) w) (λ _. omega (arith, c.if1.false)) (λ _. omega (arith, c.if1.false)))
-
-pub wait_after_spec : {M : Type 1} → statement M
-wait_after_spec = tie.close (tie.spec (search rules) (search rules) returns (search rules) returns-2 returns-3)
+    let a = known.args in
+    let w = known.waited-so_far.result in
+    sym (rule known ∙ if_case (λ m. min wait_limit m ≡ wait_limit) (a.blocked && leb (a.n + 1) w) (λ _. omega (arith, c.if-so_far-lt-WAIT_LIMIT.false)) (λ _. omega (arith, c.if-so_far-lt-WAIT_LIMIT.false)))
