@@ -1,6 +1,8 @@
 // The pages of a run's records (document 02, #101): lines of 27 columns, 50 to a page, the last page filled.
 // Rules are those of crates/rules/specs/Pages.antt; the rule is named above the function. `Puts` says that a text is put into the output, `laid_out` what is left where
 // there is too little room.
+#![tactic(auto)]
+
 ghost use Rattle.std.specs.Prelude.{◌≡◌, [], ◌∷◌, ◌++◌, ◌+◌, ◌*◌, ◌≤◌, ◌<◌, ltb, length, drop};
 ghost use Rattle.rules.specs.Sheet.{over};
 ghost use Rattle.rules.specs.Printout.{line_feed, decimal};

@@ -1,6 +1,8 @@
 // The text that the rack program prints for a sheet (document 01, "Run sheet and rack program").
 // Each text is put into the lent bytes, as much of it as there is room for, and the byte after it is returned; the bytes after it are unchanged.
 // Each contract cites a rule of crates/rules/specs/Printout.antt; the rule is named above the function.
+#![tactic(auto)]
+
 ghost use Rattle.std.specs.Prelude.{◌+◌, ◌*◌, ◌<◌, length, drop};
 ghost use Rattle.rules.specs.Printout.{refused_word, head_line, record_line};
 ghost use Rattle.digits.specs.Puts.{Puts};
