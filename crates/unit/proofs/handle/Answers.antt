@@ -7,7 +7,7 @@ use borrow.Author.Rules.{rules}
 use Rattle.rules.specs.Events.{tick_with, measurement}
 use Rattle.waits.proofs.Floor.{floor_le}
 use Rattle.state.specs.Stored.{Stored}
-use Rattle.unit.proofs.Given.{same-event}
+use Rattle.unit.proofs.Given.{same_event}
 use Rattle.unit.proofs.handle.Goals as goal
 use Rattle.unit.proofs.handle.Goals.{Start}
 
@@ -36,7 +36,7 @@ returns-in-Tick c =
     let start = (goal.at.returns-in-Tick c).Start in
     let sample : to_z w32 (of_z w32 c.in-Tick.x) ≡ c.in-Tick.x = search rules in
     rw c.in-Tick.is
-    (same-event (λ i. tick_with c.in-Tick.mask c.in-Tick.lock (sample i))
+    (same_event (λ i. tick_with c.in-Tick.mask c.in-Tick.lock (sample i))
     (c.on_tick.ensures (found start)
     (record {
       lanes = c.numbers_of-numbers.ensures;
@@ -48,7 +48,7 @@ returns-in-Measurement c =
     let start = (goal.at.returns-in-Measurement c).Start in
     let offset : to_z w16 (of_z w16 c.in-Measurement.offset) ≡ c.in-Measurement.offset = search rules in
     rw c.in-Measurement.is
-    (same-event (λ i. measurement c.in-Measurement.i (offset i)) (c.on_measurement-refused.ensures (found start)))
+    (same_event (λ i. measurement c.in-Measurement.i (offset i)) (c.on_measurement-refused.ensures (found start)))
 
 pub returns-in-Hit : goal.returns-in-Hit
 returns-in-Hit c = rw c.in-Hit.is (c.on_hit.ensures (found (goal.at.returns-in-Hit c).Start))

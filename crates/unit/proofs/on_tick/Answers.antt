@@ -9,7 +9,7 @@ use mir.Facts.{to_z-of_z}
 use Rattle.rules.specs.Events.{tick_with, sample_limit}
 use Rattle.rules.specs.Refusals.{refusal}
 use Rattle.rules.specs.Run.{effect}
-use Rattle.unit.proofs.Given.{accepted, turned_down, same-event}
+use Rattle.unit.proofs.Given.{accepted, turned_down, same_event}
 use Rattle.unit.proofs.on_tick.Goals as goal
 
 pub returns-then-ok : goal.returns-then-ok
@@ -19,7 +19,7 @@ returns-then-ok c s handed =
     let start = t.before.before.before in
     let a = start.args in
     let told = to_z-of_z start.ranges.x in
-    same-event (λ i. tick_with a.mask a.lock (told i))
+    same_event (λ i. tick_with a.mask a.lock (told i))
     (accepted _ _ (tick_with a.mask a.lock (to_z w32 (of_z w32 a.x)))
     (rw (← t.in_range-ok.ensures, t.if-ok.true) refl) refl (c.tick-next.ensures s (record { lanes = handed.lanes; follows = handed.follows })))
 

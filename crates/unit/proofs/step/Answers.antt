@@ -5,7 +5,7 @@ use mir.Val.{to_z, of_z}
 use borrow.Author.Rules.{rules}
 use Rattle.rules.specs.Events.{tick_with, measurement}
 use Rattle.state.specs.Stored.{Stored, with_core, with_rows, with_registers, with_windows, with_sums, with_building, with_backup}
-use Rattle.unit.proofs.Given.{same-event}
+use Rattle.unit.proofs.Given.{same_event}
 use Rattle.unit.proofs.step.Goals as goal
 use Rattle.unit.proofs.step.Goals.{Start}
 
@@ -32,7 +32,7 @@ returns-in-Tick c =
     record {
       across = λ s handed.
           rw c.in-Tick.is
-          (same-event (λ i. tick_with c.in-Tick.mask c.in-Tick.lock (sample i))
+          (same_event (λ i. tick_with c.in-Tick.mask c.in-Tick.lock (sample i))
           (c.on_tick.ensures (with_backup a.backup.now s) (record { lanes = handed.lanes; follows = handed.follows })));
       follows = λ follows. follows;
     }
@@ -44,7 +44,7 @@ returns-in-Measurement c =
     record {
       across = λ s handed.
           rw c.in-Measurement.is
-          (same-event (λ i. measurement c.in-Measurement.i (offset i)) (c.on_measurement-refused.ensures (found start s)));
+          (same_event (λ i. measurement c.in-Measurement.i (offset i)) (c.on_measurement-refused.ensures (found start s)));
       follows = λ follows. follows;
     }
 
