@@ -10,26 +10,22 @@ use Rattle.rules.specs.Events.{tick_with, sample_limit}
 use Rattle.rules.specs.Refusals.{refusal}
 use Rattle.rules.specs.Run.{effect}
 use Rattle.unit.proofs.Given.{accepted, turned_down, same-event}
-use Rattle.unit.proofs.on_tick.Statement.{statement}
-use Rattle.unit.proofs.on_tick.Tie as tie
+use Rattle.unit.proofs.on_tick.Goals as goal
 
-returns : tie.Need-returns
+pub returns-then-ok : goal.returns-then-ok
 unfolding refusal effect
-returns c s handed =
+returns-then-ok c s handed =
     let t = c.before.before.before.before.before.before.before in
     let start = t.before.before.before in
     let a = start.args in
     let told = to_z-of_z start.ranges.x in
     same-event (λ i. tick_with a.mask a.lock (told i))
     (accepted _ _ (tick_with a.mask a.lock (to_z w32 (of_z w32 a.x)))
-    (rw (← t.before.before.in-range.ensures, t.before.if1.true) refl) refl (c.tick.ensures s (record { lanes = handed.lanes; follows = handed.follows })))
+    (rw (← t.in_range-ok.ensures, t.if-ok.true) refl) refl (c.tick-next.ensures s (record { lanes = handed.lanes; follows = handed.follows })))
 
-returns-2 : tie.Need-returns-2
+pub returns : goal.returns
 unfolding refusal
-returns-2 c s handed =
-    let a = c.before.before.args in
+returns c s handed =
+    let a = c.args in
     turned_down _ (tick_with a.mask a.lock a.x)
-    (rw (← ap (λ (x : ℤ). leb (nat_abs x) sample_limit) (to_z-of_z c.before.before.ranges.x), ← c.before.in-range.ensures, c.if1.false) refl) (λ z. omega arith)
-
-pub on_tick_spec : {M : Type 1} → statement M
-on_tick_spec = tie.close (tie.spec (λ c κs. tt) (λ c κs. tt) returns returns-2)
+    (rw (← ap (λ (x : ℤ). leb (nat_abs x) sample_limit) (to_z-of_z c.ranges.x), ← c.in_range-ok.ensures, c.if-ok.false) refl) (λ z. omega arith)
