@@ -85,7 +85,7 @@ bucket_in_word size high low d s-fits u-fits l-fits few =
       decay_ticks = (ap ticks_of (fourth size high low t s-fits u-fits l-fits t-fits) ∙ ticks_of_last d few) i;
     }
 
-pub set-anew :
+pub set_anew :
     (b : Buckets) (n size high low d : ℕ) →
     n ≤ 3 →
     size < 256 →
@@ -94,7 +94,7 @@ pub set-anew :
     d ≤ 3 →
     buckets_of (with_word n (word_from size high low d) b) ≡ with_set n (bucket_from size high low d) (buckets_of b)
 unfolding with_set buckets_of
-set-anew b n size high low d known s-fits u-fits l-fits few =
+set_anew b n size high low d known s-fits u-fits l-fits few =
     let word = word_from size high low d in
     let assigned = (buckets_of b).assigned in
     (λ i. record { sets = four (λ k. if_map bucket_in (eqb n k) word (get_or b.sets k 0) i); assigned = assigned })

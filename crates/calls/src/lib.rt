@@ -9,6 +9,7 @@ ghost use Rattle.state.specs.Lent.{wholly};
 ghost use Rattle.state.specs.Stored.{Stored, with_core, with_windows};
 ghost use Rattle.unit.specs.Given.{Leads, Gives, given};
 ghost use Rattle.calls.specs.Lent.{entering, leaving};
+ghost use Rattle.inputs.specs.Bridge.{kept};
 
 use arith::wide16;
 use buckets::{Buckets, Row};
@@ -41,7 +42,7 @@ pub fn event(
     b: u8,
     word: i32,
 ) -> Stepped
-    ensures { wholly level decay activity frequency remainder soak sets assigned sums building backup windows regs (λ before after. Leads (before k) (given (fields kind a b word)) result.refusal (after result.core)) }
+    ensures { wholly level decay activity frequency remainder soak (kept sets) (kept assigned) sums building backup (kept windows) regs (λ before after. Leads (before k) (given (fields kind a b word)) result.refusal (after result.core)) }
 {
     let d = fields::decode(kind, a, b, word);
     let Decoded::Event(e) = d else {
@@ -70,7 +71,7 @@ pub fn set_bucket(
     low: u8,
     d: u8,
 ) -> u8
-    ensures { (s : Stored) → Gives (entering level decay activity sets assigned s) (set_bucket n size high low d) result (leaving level decay activity sets assigned s) }
+    ensures { (s : Stored) → Gives (entering level decay activity sets (kept assigned) s) (set_bucket n size high low d) result (leaving level decay activity sets (kept assigned) s) }
 {
     let number = buckets::set_refusal(n, size, high, low, d);
     if number == 0 {
@@ -107,7 +108,7 @@ pub fn assign_bucket(
     i: u8,
     n: u8,
 ) -> u8
-    ensures { (s : Stored) → Gives (entering level decay activity sets assigned s) (assign_bucket i n) result (leaving level decay activity sets assigned s) }
+    ensures { (s : Stored) → Gives (entering level decay activity (kept sets) assigned s) (assign_bucket i n) result (leaving level decay activity (kept sets) assigned s) }
 {
     let number = buckets::assign_refusal(i, n);
     if number == 0 {

@@ -1,6 +1,8 @@
 // The holdover history: document 01, "History (step 5)", with the building history of request #102. A tick changes the small tally, and the sums in use and
 // those that build only when a block completes.
 // Each contract is an equation with a rule of crates/rules/specs/History.antt through specs/Bridge.antt; the rule is named above the function.
+#![tactic(auto)]
+
 ghost use Rattle.std.specs.Prelude.{◌≡◌, List, ◌+◌, min, ℤ, ◌+ℤ◌};
 ghost use Rattle.rules.specs.History as rules;
 ghost use Rattle.rules.specs.History.{ready, held, saturated, open_emptied, sampled, starts_building, noted, recorded, replaced, fresh_history};

@@ -31,15 +31,15 @@ eight_at f d (suc (suc (suc (suc (suc (suc (suc zero))))))) h = refl
 eight_at f d (suc (suc (suc (suc (suc (suc (suc (suc j)))))))) h = absurd (omega arith)
 
 -- the input in a lane
-pub input_at : (m : Monitors) (k : ℕ) → k < 8 → get_or (inputs_of m) k fresh_input ≡ input_at m k
+pub input_in_lane : (m : Monitors) (k : ℕ) → k < 8 → get_or (inputs_of m) k fresh_input ≡ input_at m k
 unfolding inputs_of
-input_at m k h = eight_at (input_at m) fresh_input k h
+input_in_lane m k h = eight_at (input_at m) fresh_input k h
 
 -- input c is qualified by the soak in its lane
 pub qualified_lane : (m : Monitors) (c k : ℕ) → 1 ≤ c → c ≤ 8 → k ≡ c - 1
     → eqb (get_or m.soak k 0) full_soak ≡ (is_input c && qualified (input (inputs_of m) c))
 unfolding qualified
-qualified_lane m c k lo hi e = rw (is_between 1 8 c lo hi, ← e) (ap qualified (sym (input_at m k (omega arith))))
+qualified_lane m c k lo hi e = rw (is_between 1 8 c lo hi, ← e) (ap qualified (sym (input_in_lane m k (omega arith))))
 
 -- ---- an input altered
 
@@ -68,7 +68,7 @@ pub altered_lane : (f : Input → Input) (m r : Monitors) (i : ℕ) {k : ℕ} �
 unfolding altered inputs_of
 altered_lane f m r i {k} e same other =
     eight_set (input_at m) (input_at r) k (f (get_or (inputs_of m) k fresh_input))
-    (λ h. same h ∙ ap f (sym (input_at m k h))) other
+    (λ h. same h ∙ ap f (sym (input_in_lane m k h))) other
     ∙ rw e
 
 -- ---- an input put at its size

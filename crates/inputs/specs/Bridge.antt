@@ -1,6 +1,6 @@
 -- From the stored numbers of the inputs to the rules' inputs.
 use Rattle.std.specs.Prelude.{ℕ, Bool, not, List, eqb, get_or}
-use Rattle.std.specs.Borrow.{Bor}
+use Rattle.std.specs.Borrow.{Bor, MutBor}
 use denote.Triple.Both.{Both}
 use Rattle.rules.specs.Monitors.{Input}
 use Rattle.rules.specs.Inputs.{Inputs}
@@ -50,7 +50,14 @@ with_soak m soak = with_alarms m m.frequency m.remainder soak
 
 -- a row of eight numbers that is lent for a change: as it lies when the call begins, and when it returns
 abbrev pub Row : Type 0
-Row = Both (Bor (List ℕ)) (Bor (List ℕ))
+Row = Both (MutBor (List ℕ)) (MutBor (List ℕ))
+
+-- one that is lent for reading: as one that is lent for a change, and is left as it was
+abbrev pub read_from : Bor (List ℕ) → MutBor (List ℕ)
+read_from r = record { ref_ptr = r.ref_ptr; ghost_name = 0; now = r.now }
+
+abbrev pub kept : Both (Bor (List ℕ)) (Bor (List ℕ)) → Row
+kept r = record { entry = read_from r.entry; exit = read_from r.exit }
 
 -- what a tick is lent of the inputs: five rows for a change, and the frequency alarms for reading; as the call begins
 abbrev pub entering : Row → Row → Row → List ℕ → Row → Row → Monitors

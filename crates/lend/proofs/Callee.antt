@@ -4,7 +4,7 @@ use mathlib.Core.Path.{◌≡◌, refl, ap, ◌∙◌, sym, subst}
 use Prim.Native.Nat.{ℕ, zero}
 use mathlib.Core.List.{[], ◌∷◌, List}
 use seplogic.Ra.Ura.{Ura}
-use mir.Syntax.{Name, Opd as Operand, Place, Body as Code, seq, call}
+use mir.Syntax.{Callee, Opd as Operand, Place, Body as Code, seq, call}
 use mir.Val.{Val}
 use base.Logic.{ent, sep, emp, id⊢}
 use base.Fml.{Fml, Share, fsep}
@@ -172,11 +172,11 @@ module _ (cs : List Small) (fs : List Loan) (ps : List Param) (R : RattleType) w
           told r ws e =
               subst (λ (X : Type 0). X) (λ i. φ (small.values_are all_lfts lent_slots κs lent_args cs xs i) (lists_are i) (data_is i) r (last_are ws i)) e
 
-        module _ {K : Type 0} {Γ : List (Item 𝓤)} {E : Env 𝓤 H} {C : Calls 𝓤 H} {Λ : Loops 𝓤 H} {aim : Aim 𝓤 H} {f : Name} {os : List Operand} {d : Place} {rest : Code} where
+        module _ {K : Type 0} {Γ : List (Item 𝓤)} {E : Env 𝓤 H} {C : Calls 𝓤 H} {Λ : Loops 𝓤 H} {aim : Aim 𝓤 H} {f : Callee} {os : List Operand} {d : Place} {rest : Code} where
           pub calls_lending : K → FmC 𝓤 H 𝓛.laws C → Triple 𝓤 (C f) Known → (q : Share) → AllFit q fs → Are cs xs → Sounds fs ls
               → ((i j k : Item 𝓤) → Opds K 𝓛 (i ∷ j ∷ k ∷ Γ) E os (copied cs xs (pointers fs b at (values ps x))))
               → ((v : Val) (r : R.Denot) (ys : Changes fs) → φ xs ls x r (after fs ls ys) → Is R r (v ∷ []) → Sounds fs (after fs ls ys)
-              → Seq K 𝓛 (‵ (R.own r (v ∷ [])) ∷ cells q fs b at (after fs ls ys) ∷ raw (toks 𝓛 (lifetimes ps) (pick₀ κs₀) qs) ∷ ‵ (Had n₀ κs₀ ps j₀ pick₀ a) ∷ Γ) (lands C Λ E d v rest aim))
+              → Seq K 𝓛 (‵ (R.own_val r (v ∷ [])) ∷ cells q fs b at (after fs ls ys) ∷ raw (toks 𝓛 (lifetimes ps) (pick₀ κs₀) qs) ∷ ‵ (Had n₀ κs₀ ps j₀ pick₀ a) ∷ Γ) (lands C Λ E d v rest aim))
               → Seq K 𝓛 (cells q fs b at ls ∷ raw (toks 𝓛 (lifetimes ps) (pick₀ κs₀) qs) ∷ ‵ (Owned n₀ κs₀ ps j₀ pick₀ a) ∷ Γ) (runs C Λ E (seq (call f os d) rest) aim)
           calls_lending t fm met q fit are sound operands next =
               move t (2 ∷ []) $ use1 𝓛 (‵ (fsep P (Had n₀ κs₀ ps j₀ pick₀ a))) (handed_on 𝓛 n₀ (lifetimes ps) κs₀ (pick₀ κs₀) ps j₀ zero pick₀ (λ μs. μs) refl a) $ fsplit t $
@@ -185,13 +185,13 @@ module _ (cs : List Small) (fs : List Loan) (ps : List Param) (R : RattleType) w
               use2 𝓛 (raw (Known.pre (bound ns))) (ready ns are) $
               calls_at t fm Known met (bound ns) (subst (λ (us : List Val). Opds K 𝓛 (raw (Known.pre (bound ns)) ∷ lenders q fs ns b at ls ∷ ‵ (Had n₀ κs₀ ps j₀ pick₀ a) ∷ Γ) E os us) (sym (passed ns))
               (operands (raw (Known.pre (bound ns))) (lenders q fs ns b at ls) (‵ (Had n₀ κs₀ ps j₀ pick₀ a)))) (λ v.
-              use1 𝓛 (later (some (λ (r : R.Denot). (raw (toks 𝓛 all_lfts (κs ns) (shares fs (lifetimes ps) qs)) ⊛ ‵ (R.own r (v ∷ [])))
+              use1 𝓛 (later (some (λ (r : R.Denot). (raw (toks 𝓛 all_lfts (κs ns) (shares fs (lifetimes ps) qs)) ⊛ ‵ (R.own_val r (v ∷ [])))
               ⊛ raw (ensured 𝓛 lending says (κs ns) (bound ns).0.3 tt r)))) (id⊢ 𝓤 _) $ await t tt $ pick t (λ r. split t $ move t (1 ∷ []) $
               use1 𝓛 (some (λ (ws : Lasts lending (κs ns) (bound ns).0.3). ‵ (lasts lending (κs ns) (bound ns).0.3 ws) ⊛ raw (fact 𝓤 (Said ns r ws)))) (id⊢ 𝓤 _) $ pick t (λ ws.
               split t $ move t (1 ∷ []) $ heard t (Said ns r ws) (λ e.
               -- [what is said of the last values; the tokens and the result; the lenders' parts; …]
               use1 𝓛 (‵ (lasts_of (κs ns) lent_slots (all yes lent_slots) (lent_args ns) (lent_ends ns ws))) (small.left_on all_lfts lent_slots (κs ns) (lent_args ns) 𝓛 cs xs ws) $
-              rewrite t 0 (λ (F : Fml). ‵ F) (loan.left_on all_lfts (lifetimes ps) given_slots (κs ns) b (given_args ns) fs zero (λ μs. μs) ns at ls (lent_ends ns ws)) refl $
+              rewrite t 0 (λ (F : Fml). ‵ F) (loan.left_on all_lfts (lifetimes ps) given_slots (κs ns) b (given_args ns) fs zero (λ μs. μs) ns at ls (lent_ends ns ws) (pick₀ κs₀) refl) refl $
               move t (1 ∷ []) $ split t $ recast 𝓛 (tokens fs ns (raw (toks 𝓛 (lifetimes ps) (pick₀ κs₀) qs))) (sym (toks_are ns fs ns)) $ move t (0 ∷ 3 ∷ 2 ∷ []) $
               backs_all t tt q fs fit b at ls ns (loan.ends_on all_lfts (lifetimes ps) given_slots (κs ns) b (given_args ns) fs zero (λ μs. μs) ns at ls (lent_ends ns ws)) (λ gs.
               -- [the cells; the tokens; what is said of the others; the result; what is had of the others]

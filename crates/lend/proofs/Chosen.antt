@@ -5,9 +5,9 @@ use Prim.Native.Nat.{ℕ, zero, suc}
 use mathlib.Core.List.{[], ◌∷◌, List}
 use lib.ListN.{get_or}
 use seplogic.Ra.Ura.{Ura}
-use seplogic.Ra.TreeShare.{full_share}
 use mir.Syntax.{Ty, place, deref, addr_of, copy, Opd as Operand, Step as PStep, Body as Code, seq, assign}
 use mir.Val.{Val, vptr}
+use base.Fraction.{full_share}
 use base.Logic.{ent}
 use base.Fml.{Share, ftrue, fat}
 use prog.Wp.{Env, Spot, Calls, Loops, no_local}

@@ -12,11 +12,11 @@ use mir.Val.{Val, vint, vptr, of_z, has_ty, WT, bytes}
 use mir.ValLaws.{of_z_fits}
 use base.Logic.{ent, sep, emp, emp∗}
 use base.Stored.{Coded, coded_ℕ, coded_ℤ, coded_list}
-use base.Fml.{Fml, fsep}
+use base.Fml.{Fml, Lft, fsep}
 use types.Logic.{Logic, sem}
 use contract.Lifetimes.{Lfts}
 use types.Kit.{‵, ◌$◌, ◌∵◌, !, qed, move, use1, fsplit, fjoin, done}
-use denote.RattleType.{RattleType, Denots, Valss, flat, owns}
+use denote.RattleType.{RattleType, RowLaws, Denots, Valss, flat, owns}
 use denote.Shadow.{shadow}
 use denote.Laws.{Typed, Ises, Are, Spells, valss, Tellss}
 use denote.Plain.{UInt, uint_copy}
@@ -37,7 +37,9 @@ pub record Param : Type 2 where
   pub takes : ℕ
   pub ty : ℕ → Ty
   pub reaches : List (Written × List Ty)
+  pub lives : Lfts takes → Lft
   pub own : Lfts takes → Datum → List Val → Fml
+  pub shr_at : Lfts takes → Datum → ℕ → ℕ → Lft → Fml
   pub val : Datum → Val
   pub tells : (κs : Lfts takes) (x : Datum) (vs : List Val) → shadow (own κs x vs) → vs ≡ val x ∷ []
   pub typed : (κs : Lfts takes) (x : Datum) → shadow (own κs x (val x ∷ [])) → (j : ℕ) → T (has_ty (ty j) (val x)) × WT (val x)
@@ -51,7 +53,9 @@ unsigned w = record {
   takes = 0;
   ty = λ j. ty_int w;
   reaches = [];
+  lives = λ κs. (UInt w).lives;
   own = λ κs. (UInt w).own_val;
+  shr_at = λ κs. (UInt w).shr_at;
   val = vint w;
   tells = λ κs n vs is. is.0;
   typed = λ κs n is j. (eqb_refl (bytes w), record { fits = is.1 });
@@ -65,7 +69,9 @@ signed w = record {
   takes = 0;
   ty = λ j. ty_int w;
   reaches = [];
+  lives = λ κs. (SInt w).lives;
   own = λ κs. (SInt w).own_val;
+  shr_at = λ κs. (SInt w).shr_at;
   val = λ z. vint w (of_z w z);
   tells = λ κs z vs is. is.0;
   typed = λ κs z is j. (eqb_refl (bytes w), of_z_fits w z (record { sfits = is.1 }));
@@ -73,33 +79,37 @@ signed w = record {
 }
 
 -- `&[R]`: the machine value is a struct of the pointer and the count
-abbrev pub slice : RattleType → Param
-slice R = record {
+abbrev pub slice : (R : RattleType) → RowLaws R → Param
+slice R laws = record {
   Datum = Bor (List R.Denot);
   code = shr_coded (coded_list R.coded);
   takes = 1;
   ty = λ j. slice_ty (ty_ref (named j) imm (pointee R.written));
   reaches = (R.written, R.mir) ∷ R.reaches;
+  lives = λ κs. (ShrSlice (named 0) κs.0 R).lives;
   own = λ κs. (ShrSlice (named 0) κs.0 R).own_val;
+  shr_at = λ κs. (ShrSlice (named 0) κs.0 R).shr_at;
   val = λ x. slice_val x.ref_ptr (length x.now);
   tells = λ κs x vs is. is.0.0;
   typed = λ κs x is j. (tt, (tt, (record { fits = is.0.1.0 }, tt)));
-  twice = λ 𝓛 κs. (shr_slice_copy 𝓛 (named 0) κs.0 R).twice;
+  twice = λ 𝓛 κs. (shr_slice_copy 𝓛 (named 0) κs.0 R laws).twice;
 }
 
 -- `&R`: the machine value is the pointer
-abbrev pub shared : RattleType → Param
-shared R = record {
+abbrev pub shared : (R : RattleType) → RowLaws R → Param
+shared R laws = record {
   Datum = Bor R.Denot;
   code = shr_coded R.coded;
   takes = 1;
   ty = λ j. ty_ref (named j) imm (pointee R.written);
   reaches = (R.written, R.mir) ∷ R.reaches;
+  lives = λ κs. (ShrRef (named 0) κs.0 R).lives;
   own = λ κs. (ShrRef (named 0) κs.0 R).own_val;
+  shr_at = λ κs. (ShrRef (named 0) κs.0 R).shr_at;
   val = λ x. vptr x.ref_ptr.0 x.ref_ptr.1;
   tells = λ κs x vs is. is.0;
   typed = λ κs x is j. (tt, tt);
-  twice = λ 𝓛 κs. (shr_copy 𝓛 (named 0) κs.0 R).twice;
+  twice = λ 𝓛 κs. (shr_copy 𝓛 (named 0) κs.0 R laws).twice;
 }
 
 abbrev row : (p : Param) → ℕ → Lfts p.takes → RattleType
@@ -108,9 +118,11 @@ row p j κs = record {
   mir = p.ty j ∷ [];
   written = wrote (p.ty j);
   reaches = p.reaches;
+  lives = p.lives κs;
   own_val = p.own κs;
   exit = λ k. unchanged;
   coded = p.code;
+  shr_at = p.shr_at κs;
 }
 
 -- the lifetimes of several: how many there are, and those of the first and of the rest

@@ -5,9 +5,9 @@ use Prim.Native.Nat.{ℕ, zero, suc}
 use mathlib.Core.List.{[], ◌∷◌, List}
 use lib.ListN.{get_or}
 use seplogic.Ra.Ura.{Ura}
-use seplogic.Ra.TreeShare.{full_share}
 use mir.Syntax.{Ty, place, Step as PStep, Opd as Operand, copy, Local, local, value_local}
 use mir.Val.{Val}
+use base.Fraction.{full_share}
 use base.Logic.{SProp, ent, sep, wand, all, all_e, id⊢, comm∗, apply∗}
 use base.Fml.{Share, ftrue, fat, froom, fdies}
 use prog.Wp.{Env, Spot, no_local, walk}

@@ -1,10 +1,8 @@
 -- What a read gives as one number, and what it is lent of a unit.
-use Rattle.std.specs.Prelude.{ℕ, ◌+◌, ◌*◌, ◌/◌, ◌%◌, ◌≡◌}
+use Rattle.std.specs.Prelude.{ℕ, ◌+◌, ◌*◌, ◌/◌, ◌%◌, ◌≡◌, List, ℤ}
 use Rattle.rules.specs.Words.{if◌then◌else◌}
 use Rattle.rules.specs.History.{History, ready, value}
 use Rattle.rules.specs.Reading.{Answer, twos, read}
-use Rattle.inputs.specs.Bridge.{Row}
-use Rattle.state.specs.Lent.{Sums}
 use Rattle.state.specs.Stored.{Stored, meaning, with_core, with_soak, with_sums, with_registers}
 use Rattle.state.specs.declared.Core.{Core}
 
@@ -17,8 +15,8 @@ abbrev pub Shows : Stored → ℕ → ℕ → Type 0
 Shows u address n = n ≡ word_of (read (meaning u) address)
 
 -- a unit with the core and the arrays that a read is lent
-abbrev pub seen : Core → Row → Sums → Row → Stored → Stored
-seen k soak sums regs s = with_core k (with_soak soak.entry.now (with_sums sums.entry.now (with_registers regs.entry.now s)))
+abbrev pub seen : Core → List ℕ → List ℤ → List ℕ → Stored → Stored
+seen k soak sums regs s = with_core k (with_soak soak (with_sums sums (with_registers regs s)))
 
 -- the byte of the value's bits at a unit; 0 unless Ready
 abbrev pub byte_at : ℕ → History → ℕ

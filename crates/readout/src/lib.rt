@@ -68,7 +68,7 @@ fn value_byte(t: Tally, sums: &Sums, unit: u32) -> u8
 
 // A register that is read only: the rule `shown`.
 fn shown(k: Core, soak: &Row, sums: &Sums, regs: &Registers, a: u8) -> u8
-    ensures { (s : Stored) → result ≡ reading.shown (meaning (seen k soak sums regs s)) a }
+    ensures { (s : Stored) → result ≡ reading.shown (meaning (seen k soak.now sums.now regs.now s)) a }
 {
     if a == 0x27 {
         return hours(k.pll.mode, k.holding);
@@ -106,7 +106,7 @@ fn shown(k: Core, soak: &Row, sums: &Sums, regs: &Registers, a: u8) -> u8
 
 // A register of the map: the rule `content`.
 fn content(k: Core, soak: &Row, sums: &Sums, regs: &Registers, a: u8) -> u8
-    ensures { (s : Stored) → result ≡ reading.content (meaning (seen k soak sums regs s)) a }
+    ensures { (s : Stored) → result ≡ reading.content (meaning (seen k soak.now sums.now regs.now s)) a }
 {
     let row = registers::register_at(a);
     if row.readonly {
@@ -121,7 +121,7 @@ fn content(k: Core, soak: &Row, sums: &Sums, regs: &Registers, a: u8) -> u8
 // The rule `read`, at every address, of a unit whose core and arrays are these: 256 times the refusal, plus the byte.
 // Not: 0x26 shows the byte in its slot, not the last command; the value shown where it is not Ready.
 pub fn read(k: Core, soak: &Row, sums: &Sums, regs: &Registers, a: u8) -> u16
-    ensures { (s : Stored) → Shows (seen k soak sums regs s) a result }
+    ensures { (s : Stored) → Shows (seen k soak.now sums.now regs.now s) a result }
 {
     let known = registers::in_map(a);
     if known {

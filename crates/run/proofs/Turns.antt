@@ -53,7 +53,7 @@ going_more all before written s e es out h g =
     }
 
 -- One turn of a loop: the event e gave o, and the part of the output from `written` on came back as w.
-pub going-put :
+pub going_put :
     (all before : List ℕ) (written further : ℕ) (s : State) (e : Event) (rest es : List Event) (out w : List ℕ) (o : Outcome)
     → written + 4 ≡ further → further ≤ length before
     → rest ≡ e ∷ es → o ≡ outcome s e
@@ -61,7 +61,7 @@ pub going-put :
     → Going all before written s rest out
     → Going all before further o.state es (take written out ++ (w ++ drop (length out - written) (drop written out)))
 unfolding record_of
-going-put all before written further s e rest es out w o f h r q p g =
+going_put all before written further s e rest es out w o f h r q p g =
     rw (p, q, ← f)
     (subst (λ (t : List ℕ). Going all before (written + 4) (outcome s e).state es t)
     (sym (came_back written (record_of (outcome s e)) out))

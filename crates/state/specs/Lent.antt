@@ -1,6 +1,6 @@
 -- A unit whose arrays are lent: as they lie when a call begins, and when it returns. The core goes by value.
 use Rattle.std.specs.Prelude.{List, ℤ}
-use Rattle.std.specs.Borrow.{Bor}
+use Rattle.std.specs.Borrow.{MutBor}
 use denote.Triple.Both.{Both}
 use Rattle.inputs.specs.Bridge as rows
 use Rattle.inputs.specs.Bridge.{Row}
@@ -9,7 +9,7 @@ use Rattle.state.specs.declared.Core.{Core}
 
 -- an array of sums that is lent
 abbrev pub Sums : Type 0
-Sums = Both (Bor (List ℤ)) (Bor (List ℤ))
+Sums = Both (MutBor (List ℤ)) (MutBor (List ℤ))
 
 -- the unit with core k and what is lent, as the call begins
 abbrev pub entering : Row → Row → Row → Row → Row → Row → Row → Row → Sums → Sums → Sums → Row → Row → Core → Stored

@@ -1,5 +1,5 @@
 -- What a tick is lent of a unit, as it lies when the call begins, and when it returns; and what it is handed beside that. The core goes by value.
-use Rattle.std.specs.Prelude.{ℕ, ◌≡◌}
+use Rattle.std.specs.Prelude.{ℕ, ◌≡◌, List}
 use Rattle.rules.specs.Registers.{settings_from}
 use Rattle.buckets.specs.Bridge.{numbers, numbers_of}
 use Rattle.inputs.specs.Bridge as rows
@@ -33,6 +33,6 @@ across level decay activity frequency remainder soak regs windows sums building 
 
 -- What is made once and handed to the ticks: the numbers of each input's set follow from the sets of unit s, the keys and the floor of the delay from the
 -- registers.
-pub record Handed (sizes highs lows lasts regs keys : Row) (floor : ℕ) (s : Stored) : Type 0 where
-  pub lanes : numbers sizes.entry.now highs.entry.now lows.entry.now lasts.entry.now ≡ numbers_of s.buckets
-  pub follows : Follows (settings_from regs.entry.now) keys.entry.now floor
+pub record Handed (sizes highs lows lasts regs keys : List ℕ) (floor : ℕ) (s : Stored) : Type 0 where
+  pub lanes : numbers sizes highs lows lasts ≡ numbers_of s.buckets
+  pub follows : Follows (settings_from regs) keys floor

@@ -7,7 +7,7 @@ ghost use Rattle.rules.specs.Pll.{alarm_due};
 ghost use Rattle.rules.specs.Pll as pll;
 ghost use Rattle.rules.specs.Inputs.{altered};
 ghost use Rattle.rules.specs.Tick as rules;
-ghost use Rattle.inputs.specs.Bridge.{inputs_of, with_lock_alarms};
+ghost use Rattle.inputs.specs.Bridge.{inputs_of, with_lock_alarms, kept};
 ghost use Rattle.inputs.specs.declared.Monitors as stored;
 ghost use Rattle.pll.specs.Bridge.{loop_of};
 ghost use Rattle.state.specs.Stored.{Stored, meaning};
@@ -68,7 +68,7 @@ pub fn tick(
     sums: &mut Sums,
     building: &mut Sums,
 ) -> Core
-    ensures { across level decay activity frequency remainder soak regs windows sums building (λ before after. (s : Stored) → Handed sizes highs lows lasts regs keys handed s → meaning (after result s) ≡ rules.ticked (record { mask = mask; lock = lock; sample = x }) (meaning (before k s))) }
+    ensures { across level decay activity (kept frequency) remainder soak (kept regs) (kept windows) sums building (λ before after. (s : Stored) → Handed sizes.now highs.now lows.now lasts.now regs.now keys.now handed s → meaning (after result s) ≡ rules.ticked (record { mask = mask; lock = lock; sample = x }) (meaning (before k s))) }
 {
     // steps 1 and 2
     monitor::watched(

@@ -15,6 +15,7 @@ ghost use Rattle.tick.specs.Lent.{across, Handed};
 ghost use Rattle.unit.specs.Events.{event_of};
 ghost use Rattle.unit.specs.Given.{Gives};
 ghost use Rattle.unit.specs.Lent.{entering, leaving};
+ghost use Rattle.inputs.specs.Bridge.{kept};
 
 use arith::{is_input, is_tracked, wide16, wide32};
 use buckets::{Buckets, Row};
@@ -78,7 +79,7 @@ fn on_tick(
     sums: &mut Sums,
     building: &mut Sums,
 ) -> Stepped
-    ensures { across level decay activity frequency remainder soak regs windows sums building (λ before after. (s : Stored) → Handed sizes highs lows lasts regs keys handed s → Gives (before k s) (events.tick_with mask lock x) result.refusal (after result.core s)) }
+    ensures { across level decay activity (kept frequency) remainder soak (kept regs) (kept windows) sums building (λ before after. (s : Stored) → Handed sizes.now highs.now lows.now lasts.now regs.now keys.now handed s → Gives (before k s) (events.tick_with mask lock x) result.refusal (after result.core s)) }
 {
     let ok = in_range(x);
     if ok {
@@ -241,7 +242,7 @@ pub fn step(
     building: &mut Sums,
     backup: &mut Sums,
 ) -> Stepped
-    ensures across { across level decay activity frequency remainder soak regs windows sums building (λ before after. (s : Stored) → Handed sizes highs lows lasts regs keys handed.old s → Gives (before k (with_backup backup.old s)) (event_of e) result.refusal (after result.core (with_backup backup.new s))) }
+    ensures across { across level decay activity frequency remainder soak regs (kept windows) sums building (λ before after. (s : Stored) → Handed sizes.now highs.now lows.now lasts.now regs.old keys.old handed.old s → Gives (before k (with_backup backup.old s)) (event_of e) result.refusal (after result.core (with_backup backup.new s))) }
     ensures follows { Follows (settings_from regs.old) keys.old handed.old → Follows (settings_from regs.new) keys.new handed.new }
 {
     match e {
@@ -291,7 +292,7 @@ pub fn handle(
     windows: &Windows,
     regs: &mut Registers,
 ) -> Stepped
-    ensures { wholly level decay activity frequency remainder soak sets assigned sums building backup windows regs (λ before after. Gives (before k) (event_of e) result.refusal (after result.core)) }
+    ensures { wholly level decay activity frequency remainder soak (kept sets) (kept assigned) sums building backup (kept windows) regs (λ before after. Gives (before k) (event_of e) result.refusal (after result.core)) }
 {
     match e {
         Event::Tick(mask, lock, x) => {

@@ -1,5 +1,7 @@
 // The holdover value (document 01, "History (step 5)"): the mean of the kept samples, rounded down, and its 32 bits as 0x4a to 0x4d show them.
 // Each contract is an equation with a rule of crates/rules/specs; the rule is named above the function.
+#![tactic(auto)]
+
 ghost use Rattle.std.specs.Prelude.{◌≡◌, List, ◌/◌, ◌^◌, ◌<◌, ℤ};
 ghost use Rattle.std.specs.Int.Signed.{shr_z};
 ghost use Rattle.rules.specs.History.{sum_of, value};

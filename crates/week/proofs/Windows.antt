@@ -49,10 +49,10 @@ length_from zero k l = refl
 length_from (suc n) k l = ap suc (length_from n (k + 1) l)
 
 -- the end of the last
-pub last_end : (n k end : ℕ) (l : List ℕ) → last_end end (windows_from (suc n) k l) ≡ get_or l (2 * (k + n) + 1) 0
+pub last_end_from : (n k end : ℕ) (l : List ℕ) → last_end end (windows_from (suc n) k l) ≡ get_or l (2 * (k + n) + 1) 0
 unfolding windows_from last_end
-last_end zero k end l = let here : k ≡ k + 0 = omega arith in ap (λ (m : ℕ). get_or l (2 * m + 1) 0) here
-last_end (suc n) k end l = let there : k + 1 + n ≡ k + suc n = omega arith in last_end n (k + 1) (get_or l (2 * k + 1) 0) l ∙ ap (λ (m : ℕ). get_or l (2 * m + 1) 0) there
+last_end_from zero k end l = let here : k ≡ k + 0 = omega arith in ap (λ (m : ℕ). get_or l (2 * m + 1) 0) here
+last_end_from (suc n) k end l = let there : k + 1 + n ≡ k + suc n = omega arith in last_end_from n (k + 1) (get_or l (2 * k + 1) 0) l ∙ ap (λ (m : ℕ). get_or l (2 * m + 1) 0) there
 
 -- "first at 0 with last ending the week", of one window or more
 pub meets : (n : ℕ) (l : List ℕ) → 1 ≤ n
@@ -61,7 +61,7 @@ unfolding starts_week ends_week windows_from
 meets zero l h = absurd (not-suc-le-zero h)
 meets (suc n) l h =
     let last : 2 * suc n - 1 ≡ 2 * (0 + n) + 1 = omega arith in
-    ap (λ (e : ℕ). eqb (get_or l 0 0) 0 && eqb e week_ticks) (ap (λ (m : ℕ). get_or l m 0) last ∙ sym (last_end n 0 0 l))
+    ap (λ (e : ℕ). eqb (get_or l 0 0) 0 && eqb e week_ticks) (ap (λ (m : ℕ). get_or l m 0) last ∙ sym (last_end_from n 0 0 l))
 
 -- ---- the check of one window
 

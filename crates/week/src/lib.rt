@@ -1,5 +1,7 @@
 // The week of the busy hours (document 02, #107): whether a place lies in a window, the place after a tick, the one check of the calls, and what is stored of
 // windows that pass it. Places and windows are in ticks from the week's start.
+#![tactic(auto)]
+
 ghost use Rattle.std.specs.Prelude.{◌≡◌, ◌&&◌, [], ◌+◌, ◌≤◌, leb, ltb};
 ghost use Rattle.rules.specs.Words.{if◌then◌else◌};
 ghost use Rattle.rules.specs.Week as rules;

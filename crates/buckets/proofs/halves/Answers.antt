@@ -17,7 +17,7 @@ returns c =
     let second = third in
     let first = second in
     let a = first.args in
-    let half : ℕ → ℕ = λ k. get_or a.t1 k 0 / a.unit % 65_536 in
+    let half : ℕ → ℕ = λ k. get_or a.sets k 0 / a.unit % 65_536 in
     c.of_sets.ensures
-    ∙ (λ i. eight (word_of (first.half_of_lem.ensures i ∷ second.half_of-b.ensures i ∷ third.half_of-c.ensures i ∷ fourth.half_of-d.ensures i ∷ []) a.assigned))
+    ∙ (λ i. eight (word_of (first.half_of-a.ensures i ∷ second.half_of-b.ensures i ∷ third.half_of-c.ensures i ∷ fourth.half_of-d.ensures i ∷ []) a.assigned))
     ∙ (λ i. eight (λ k. four_at half 0 (get_or a.assigned k 0 % 4) (mod-lt (get_or a.assigned k 0) (omega arith)) i))

@@ -22,4 +22,4 @@ returns c =
     ∷ c.either-7.ensures i
     ∷ c.either-8.ensures i
     ∷ [])
-    ∙ (λ i. eight (λ k. if eqb (get_or rows.t1 k 0 % 4) (start.wide16-set.ensures.0 i) then 1 else 0))
+    ∙ (λ i. eight (λ k. if eqb (get_or rows.assigned k 0 % 4) (start.wide16-set.ensures.0 i) then 1 else 0))

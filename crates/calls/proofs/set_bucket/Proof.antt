@@ -11,7 +11,7 @@ use Rattle.rules.specs.Run.{after_set, effect}
 use Rattle.rules.specs.Inputs.{each_from}
 use Rattle.rules.proofs.SoundBuckets.{set_allowed}
 use Rattle.buckets.specs.Bridge.{buckets_of}
-use Rattle.buckets.proofs.Sets.{set-anew}
+use Rattle.buckets.proofs.Sets.{set_anew}
 use Rattle.inputs.specs.Bridge.{is_set, inputs_of, with_activity}
 use Rattle.state.specs.Stored.{Stored, meaning, with_rows, with_sets}
 use Rattle.unit.proofs.Given.{accepted, turned_down}
@@ -43,7 +43,7 @@ returns c = λ s.
     ∙ (λ i. put_at_size (λ j. is_set (get_or (having.having.ensures i) (j - 1) 0)) (wide.wide16.ensures.0 i) (inputs_of u.monitors))
     ∙ concerned u.monitors a.size (λ k. eqb (get_or a.assigned.now k 0 % 4) a.n) in
     let anew = (λ i. buckets_of (record { sets = (sets.with-set.ensures i).sets; assigned = a.assigned.now }))
-    ∙ set-anew u.buckets a.n a.size a.high a.low a.d ok.known start.ranges.size.fits start.ranges.high.fits start.ranges.low.fits ok.few in
+    ∙ set_anew u.buckets a.n a.size a.high a.low a.d ok.known start.ranges.size.fits start.ranges.high.fits start.ranges.low.fits ok.few in
     accepted u _ (set_bucket a.n a.size a.high a.low a.d) (sym tested.if1.true ∙ number) refl
     (λ i. with_buckets (anew i) (with_inputs (put i) (meaning u)))
 

@@ -18,7 +18,7 @@ use Rattle.state.specs.declared.Core.{Core}
 use Rattle.fields.specs.Bridge.{decoded_of}
 use Rattle.rules.proofs.Parts.{part_all}
 use Rattle.sheet.proofs.Parts.{event_part, event_length}
-use Rattle.run.proofs.Turns.{Going, going_start, going-put, going_done, events_more, events_stop}
+use Rattle.run.proofs.Turns.{Going, going_start, going_put, going_done, events_more, events_stop}
 use Rattle.run.proofs.run_events.Statement.{statement}
 use Rattle.run.proofs.run_events.Tie as tie
 
@@ -135,7 +135,7 @@ loop-again c =
       omega (arith, in-loop.loop-test.true),
       after.1 l.invariant.1,
       (λ s lanes.
-          going-put _ _ (4 * i) (4 * (i + 1)) _ _ _ _ _ _ _ (omega arith) (omega (arith, in-loop.loop-test.true, (begun at-loop).requires.1))
+          going_put _ _ (4 * i) (4 * (i + 1)) _ _ _ _ _ _ _ (omega arith) (omega (arith, in-loop.loop-test.true, (begun at-loop).requires.1))
           (events_more _ _ _ in-loop.loop-test.true _ (reads_at read _ (ap decoded_of told.e.given.1))) (after.0 s (record { lanes = lanes; follows = l.invariant.1 })).rules
           (put.put_record.ensures (left s)) (l.invariant.2 s lanes)),
     )

@@ -17,7 +17,7 @@ use Rattle.selection.specs.Bridge.{Follows}
 use Rattle.state.specs.Stored.{Stored, meaning, with_core, with_soak, with_registers, with_sums, with_building, with_backup}
 use Rattle.state.specs.declared.Core.{Core}
 use Rattle.rules.proofs.Parts.{part_all}
-use Rattle.run.proofs.Turns.{Going, going_start, going-put, going_done, settings_more}
+use Rattle.run.proofs.Turns.{Going, going_start, going_put, going_done, settings_more}
 use Rattle.run.proofs.run_settings.Statement.{statement}
 use Rattle.run.proofs.run_settings.Tie as tie
 
@@ -101,7 +101,7 @@ loop-again c =
     let after : Stored → Stored = λ s.
     with_registers last.1.1.1.0 (with_sums last.1.1.1.1.1.1.0 (with_building last.1.1.1.1.1.1.1.0 (with_backup last.1.1.1.1.1.1.1.1.0 s))) in
     let going : (s : Stored) → _ = λ s.
-    going-put _ _ (4 * i) (4 * (i + 1)) _ _ _ _ _ _ _ (omega arith) (omega (arith, l.inv.1)) more (told.0 (with_soak soak s)).rules
+    going_put _ _ (4 * i) (4 * (i + 1)) _ _ _ _ _ _ _ (omega arith) (omega (arith, l.inv.1)) more (told.0 (with_soak soak s)).rules
     (put.put_record.ensures (after s)) (l.inv.3 s) in (
       search rules,
       (going some).same,

@@ -1,35 +1,17 @@
 -- The loop's invariant: whether all ascend is whether those from window k on do, after the end of the one before.
-use Prim.Native.Nat.{ℕ, ◌+◌, ◌-◌, ◌≤◌}
+use Prim.Native.Nat.{ℕ, ◌+◌, ◌-◌, ◌<◌}
 use mathlib.Core.Path.{◌≡◌, ap, sym, ◌∙◌}
-use mathlib.Core.Bool.{true}
-use mathlib.Core.List.{◌∷◌}
+use mathlib.Core.List.{List, ◌∷◌}
+use mathlib.Core.Bool.{Bool}
 use native.Mathlib.Omega.{arith}
-use borrow.Author.Rules.{rules}
-use borrow.Author.Tests.{not-false}
-use Rattle.rules.specs.Week.{week_ticks, ascending, window_at, windows_from}
-use Rattle.rules.proofs.Tests.{not-true}
-use Rattle.week.proofs.Windows.{next_window, no_window, fits, refused_here, passed_here, fits_end}
+use Rattle.rules.specs.Week.{ascending, window_at, windows_from}
+use Rattle.week.proofs.Windows.{next_window, no_window, refused_here, passed_here, fits_end}
 use Rattle.week.proofs.ascends.Goals as goal
-use Rattle.week.proofs.ascends.Goals.{After-follows, Else-not-follows}
 
 -- the windows that are left, of which the next is window k
-left : (c : After-follows)
-    → let at-loop = c.before in
-    let l = at-loop.args.windows.now in
-    let k = at-loop.loop-k.k in
-    ascending 0 (windows_from at-loop.args.count 0 l)
-    ≡ ascending at-loop.loop-k.from (window_at k l ∷ windows_from (at-loop.wide64-n.result - (k + 1)) (k + 1) l)
-left c =
-    let inside = c.before in
-    let at-loop = inside.before in
-    let l = at-loop.args.windows.now in
-    at-loop.loop-k.invariant.3 ∙ ap (ascending at-loop.loop-k.from) (next_window at-loop.wide64-n.result at-loop.loop-k.k l inside.loop-k-test.true)
-
--- this window passes
-fits_here : (c : Else-not-follows)
-    → let at-loop = c.before in
-    fits at-loop.loop-k.from (window_at at-loop.loop-k.k at-loop.args.windows.now) ≡ true
-fits_here c = sym c.follows.ensures ∙ not-false _ c.if-not-follows.false
+left : (whole : Bool) (n k from : ℕ) (l : List ℕ) → whole ≡ ascending from (windows_from (n - k) k l) → k < n
+    → whole ≡ ascending from (window_at k l ∷ windows_from (n - (k + 1)) (k + 1) l)
+left whole n k from l same below = same ∙ ap (ascending from) (next_window n k l below)
 
 pub loop-k-init : goal.loop-k-init
 loop-k-init c =
@@ -39,30 +21,28 @@ loop-k-init c =
 
 pub returns-then-not-follows : goal.returns-then-not-follows
 returns-then-not-follows c =
-    let tested = c.before in
-    let at-loop = tested.before in
-    let l = at-loop.args.windows.now in
-    sym (left tested ∙ refused_here at-loop.loop-k.from (window_at at-loop.loop-k.k l) _ (sym tested.follows.ensures ∙ not-true _ c.if-not-follows.true))
+    let l = c.args.windows.now in
+    let k = c.loop-k.k in
+    sym (left _ c.wide64-n.result k c.loop-k.from l c.loop-k.invariant.3 c.loop-k-test.true ∙ refused_here c.loop-k.from (window_at k l) _ (sym c.follows.ensures ∙ c.if-not-follows.true))
 
 pub overflow_add-from : goal.overflow_add-from
 overflow_add-from c =
-    let at-loop = c.before in
-    record { fits = omega (arith, fits_end at-loop.loop-k.from (window_at at-loop.loop-k.k at-loop.args.windows.now) (fits_here c)) }
+    record { fits = omega (arith, fits_end c.loop-k.from (window_at c.loop-k.k c.args.windows.now) (sym c.follows.ensures ∙ c.if-not-follows.false)) }
 
 pub loop-k-preserved : goal.loop-k-preserved
 loop-k-preserved c =
-    let inside = c.before in
-    let at-loop = inside.before in
-    let w = window_at at-loop.loop-k.k at-loop.args.windows.now in (
-      omega (arith, inside.loop-k-test.true),
-      at-loop.loop-k.invariant.1,
-      omega (arith, fits_end at-loop.loop-k.from w (fits_here c)),
-      left c.before ∙ passed_here at-loop.loop-k.from w _ (fits_here c),
+    let l = c.args.windows.now in
+    let k = c.loop-k.k in
+    let w = window_at k l in
+    let fits = sym c.follows.ensures ∙ c.if-not-follows.false in (
+      omega (arith, c.loop-k-test.true),
+      c.loop-k.invariant.1,
+      omega (arith, fits_end c.loop-k.from w fits),
+      left _ c.wide64-n.result k c.loop-k.from l c.loop-k.invariant.3 c.loop-k-test.true ∙ passed_here c.loop-k.from w _ fits,
     )
 
 pub returns : goal.returns
 unfolding ascending
 returns c =
-    let at-loop = c.before in
-    let l = at-loop.args.windows.now in
-    sym (at-loop.loop-k.invariant.3 ∙ ap (ascending at-loop.loop-k.from) (no_window at-loop.wide64-n.result at-loop.loop-k.k l c.loop-k-test.false))
+    let l = c.args.windows.now in
+    sym (c.loop-k.invariant.3 ∙ ap (ascending c.loop-k.from) (no_window c.wide64-n.result c.loop-k.k l c.loop-k-test.false))

@@ -1,14 +1,7 @@
 -- The loop's invariant: whether all ascend is whether those from window k on do, after the end of the one before.
-use Prim.Native.Nat.{ℕ, ◌+◌, ◌-◌, ◌≤◌}
-use mathlib.Core.Path.{◌≡◌, ap, sym, ◌∙◌}
-use mathlib.Core.Bool.{true}
-use mathlib.Core.List.{◌∷◌}
-use native.Mathlib.Omega.{arith}
-use borrow.Author.Rules.{rules}
-use borrow.Author.Tests.{not-false}
-use Rattle.rules.specs.Week.{week_ticks, ascending, window_at, windows_from}
-use Rattle.rules.proofs.Tests.{not-true}
-use Rattle.week.proofs.Windows.{next_window, no_window, fits, refused_here, passed_here, fits_end}
+use Prim.Native.Nat.{◌+◌, ◌-◌, ◌≤◌}
+use mathlib.Core.Path.{◌≡◌}
+use Rattle.rules.specs.Week.{week_ticks, ascending, windows_from}
 use Rattle.week.proofs.ascends.Given as goal
 
 abbrev pub invariant-loop-k : goal.invariant-loop-k

@@ -2,7 +2,6 @@
 use mathlib.Core.Bool.{◌&&◌}
 use mathlib.Core.Path.{◌≡◌, ◌∙◌}
 use native.Mathlib.Omega.{arith}
-use borrow.Author.Rules.{rules}
 use Rattle.rules.specs.Week.{starts_week, ends_week, windows_from, first_windows}
 use Rattle.week.proofs.Windows.{meets}
 use Rattle.week.proofs.meets_itself.Goals as goal
@@ -16,10 +15,8 @@ returns-then-n-eq0 c =
 
 pub returns : goal.returns
 returns c =
-    let tested = c.before in
-    let known = tested.before in
-    let a = known.args in
-    let same = known.wide64-n.ensures.0 in
+    let a = c.args in
+    let same = c.wide64-n.ensures.0 in
     c.both.ensures
-    ∙ meets known.wide64-n.result a.windows.now (omega (arith, tested.if-n-eq0.false))
+    ∙ meets c.wide64-n.result a.windows.now (omega (arith, c.if-n-eq0.false))
     ∙ (λ i. starts_week (first_windows (same i) a.windows.now) && ends_week (first_windows (same i) a.windows.now))

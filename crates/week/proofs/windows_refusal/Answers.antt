@@ -1,8 +1,5 @@
 -- A test that fails turns the windows down; windows that pass all three are let through.
 use mathlib.Core.Path.{sym, ◌∙◌}
-use borrow.Author.Rules.{rules}
-use borrow.Author.Tests.{not-false}
-use Rattle.rules.proofs.Tests.{not-true}
 use Rattle.week.proofs.Windows.{too_many, not_ascending, around, none_wrong}
 use Rattle.week.proofs.windows_refusal.Goals as goal
 
@@ -12,7 +9,7 @@ returns-then-count-gt8 c = too_many c.args.count c.args.windows.now c.if-count-g
 pub returns-then-not-ascends : goal.returns-then-not-ascends
 returns-then-not-ascends c =
     let a = c.args in
-    not_ascending a.count a.windows.now (sym c.ascends.ensures ∙ not-true _ c.if-not-ascends.true)
+    not_ascending a.count a.windows.now (sym c.ascends.ensures ∙ c.if-not-ascends.true)
 
 pub returns-then-meets_itself : goal.returns-then-meets_itself
 returns-then-meets_itself c =
@@ -21,8 +18,6 @@ returns-then-meets_itself c =
 
 pub returns : goal.returns
 returns c =
-    let passed = c.before in
-    let few = passed.before in
-    let a = few.args in
-    none_wrong a.count a.windows.now few.if-count-gt8.false (sym passed.ascends.ensures ∙ not-false _ passed.if-not-ascends.false)
+    let a = c.args in
+    none_wrong a.count a.windows.now c.if-count-gt8.false (sym c.ascends.ensures ∙ c.if-not-ascends.false)
     (sym c.meets_itself.ensures ∙ c.if-meets_itself.false)

@@ -1,0 +1,6 @@
+-- Each number is what its call ensures.
+use borrow.Author.Rules.{rules}
+use Rattle.monitor.proofs.remainder_row.Goals as goal
+
+pub returns : goal.returns
+returns c = cc

@@ -1,0 +1,49 @@
+-- The automatic choice: an arm of the rule for each return.
+use Prim.Native.Nat.{ℕ}
+use mathlib.Core.Path.{◌≡◌, refl, ap, sym, ◌∙◌}
+use mathlib.Core.Bool.{Bool, true, false, not}
+use borrow.Author.Rules.{rules}
+use borrow.Author.Tests.{eq-eqb, ne_eqb}
+use Rattle.rules.specs.Words.{if◌then◌else◌}
+use Rattle.rules.specs.Selection.{candidate, settled, reverted, reselected}
+use Rattle.rules.specs.Registers.{settings_from}
+use Rattle.rules.specs.Week.{busy}
+use Rattle.week.specs.Bridge.{windows_of}
+use Rattle.rules.specs.Settings.{revertive, delay_ticks}
+use Rattle.inputs.specs.Bridge.{inputs_of, with_soak}
+use Rattle.selection.specs.Bridge.{choice_of}
+use Rattle.selection.proofs.reselected.Goals as goal
+
+-- where the best is selected, both arms choose it
+alike : {A : Type 0} (t : Bool) {x y : A} → x ≡ y → y ≡ (if not t then y else x)
+alike true p = sym p
+alike false p = refl
+
+pub returns-then-c-b : goal.returns-then-c-b
+unfolding reselected
+returns-then-c-b c m d =
+    let a = c.args in
+    let stands = candidate (settings_from a.regs.now) (inputs_of (with_soak m a.soak.now)) a.c.selected in
+    rw (eq-eqb _ _ c.if-c-b.true) (c.settled.ensures ∙ alike stands (ap settled c.if-c-b.true))
+
+pub returns-then-reverts : goal.returns-then-reverts
+unfolding reselected
+returns-then-reverts c m d =
+    let a = c.args in
+    let reverts : revertive (settings_from a.regs.now) a.c.selected ≡ true = sym c.is_revertive-reverts.ensures ∙ c.if-reverts.true in
+    let minutes = c.setting.ensures in
+    rw (← c.is_candidate-stands.ensures m, c.if-stands.true, ne_eqb _ _ c.if-c-b.false, reverts)
+    (c.reverted.ensures (rw minutes d)
+    ∙ ap (λ (k : ℕ). reverted (busy (windows_of a.windows.now) a.place) (delay_ticks k) a.b (choice_of a.c)) minutes)
+
+pub returns-then-stands : goal.returns-then-stands
+unfolding reselected
+returns-then-stands c m d =
+    let a = c.args in
+    let stays : revertive (settings_from a.regs.now) a.c.selected ≡ false = sym c.is_revertive-reverts.ensures ∙ c.if-reverts.false in
+    rw (← c.is_candidate-stands.ensures m, c.if-stands.true, ne_eqb _ _ c.if-c-b.false, stays)
+    c.settled-then-stands.ensures
+
+pub returns : goal.returns
+unfolding reselected
+returns c m d = rw (← c.is_candidate-stands.ensures m, c.if-stands.false) c.settled-2.ensures
