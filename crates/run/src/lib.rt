@@ -161,8 +161,7 @@ pub fn run_into(sheet: &[u8], out: &mut [u8]) -> usize
     let settings = c.settings;
     let events = c.events;
     let u = state::fresh();
-    let m = u.monitors;
-    let soak = m.soak;
+    let soak = u.monitors.soak;
     let mut regs = u.regs;
     let mut sums = u.history.sums;
     let mut building = u.history.building;
