@@ -17,7 +17,7 @@ pub type Row = [u16; 8];
 // input, input 1 first: of its number the two lowest bits count. A word, since at each tick of a host two of its halves are chosen for every input, side by
 // side, and then taken apart: two choices in place of four.
 #[repr(C)]
-#[derive(Drop)]
+#[derive(Clone, Copy)]
 pub struct Buckets {
     pub sets: [u32; 4],
     pub assigned: Row,

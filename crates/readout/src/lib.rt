@@ -1,5 +1,7 @@
 // What a read of a register shows (document 01, "Registers"): hours, state and status, the value, masks and counts, and the settings.
 // Each contract is an equation with a rule of crates/rules/specs/Reading.antt; the rule is named above the function.
+#![tactic(auto)]
+
 ghost use Rattle.std.specs.Prelude.{◌≡◌, List, ◌≤◌, min, ℤ};
 ghost use Rattle.rules.specs.Reading as reading;
 ghost use Rattle.pll.specs.Bridge.{mode_of};

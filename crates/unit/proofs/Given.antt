@@ -17,5 +17,5 @@ pub turned_down : (s : Stored) (e : Event) {n : ℕ} → n ≡ refusal (meaning 
 turned_down s e r z = record { rules = refused_outcome (meaning s) e r z; left = λ some. refl }
 
 -- the same event
-pub same-event : {s t : Stored} {n : ℕ} {e f : Event} → e ≡ f → Gives s e n t → Gives s f n t
-same-event {s} {t} {n} p g = subst (λ (e : Event). Gives s e n t) p g
+pub same_event : {s t : Stored} {n : ℕ} {e f : Event} → e ≡ f → Gives s e n t → Gives s f n t
+same_event {s} {t} {n} p g = subst (λ (e : Event). Gives s e n t) p g

@@ -9,14 +9,8 @@ use Rattle.rules.specs.Words.{if◌then◌else◌}
 use Rattle.rules.specs.Sheet.{is_zero, bad, tick_of, measurement_of, hit_of, write_of, finer_of, fields}
 use Rattle.fields.specs.Bridge.{wordless_of}
 use Rattle.fields.proofs.Words.{zero_is}
-use Rattle.fields.proofs.decode.Statement.{statement}
-use Rattle.fields.proofs.decode.Tie as tie
-
-returns : tie.Need-returns
-unfolding fields
-returns c =
-    let s = c.before.before in
-    rw c.before.if1.true (c.tick-of.ensures ∙ ap (tick_of s.args.a s.args.b) (to_z-of_z s.ranges.word))
+use Rattle.fields.proofs.decode.Goals as goal
+use Rattle.fields.proofs.decode.Goals.{After-is_zero-unused}
 
 both_true : (t : Bool) → (t && true) ≡ t
 both_true true = refl
@@ -34,29 +28,32 @@ all_bad false false true = refl
 all_bad false false false = refl
 
 -- the test of the word is the rule's
-zero_test : (c : tie.After-is-zero) → c.is_zero.result ≡ is_zero c.before.before.args.word
-zero_test c = c.is_zero.ensures ∙ ap is_zero (to_z-of_z c.before.before.ranges.word)
+zero_test : (c : After-is_zero-unused) → c.is_zero-unused.result ≡ is_zero c.args.word
+zero_test c = c.is_zero-unused.ensures ∙ ap is_zero (to_z-of_z c.ranges.word)
 
-returns-2 : tie.Need-returns-2
+pub returns-then-kind-eq0 : goal.returns-then-kind-eq0
+unfolding fields
+returns-then-kind-eq0 c =
+    let s = c.before.before in
+    rw c.if-kind-eq0.true (c.tick_of.ensures ∙ ap (tick_of s.args.a s.args.b) (to_z-of_z s.ranges.word))
+
+pub returns-then-unused : goal.returns-then-unused
 unfolding fields measurement_of hit_of write_of wordless_of
-returns-2 c =
+returns-then-unused c =
     let tested = c.before.before in
     let s = tested.before.before in
-    rw (ne_eqb s.args.kind 0 tested.before.if1.false, zero_is s.args.word (sym (zero_test tested) ∙ c.before.if2.true), both_true) c.wordless.ensures
+    rw (ne_eqb s.args.kind 0 tested.if-kind-eq0.false, zero_is s.args.word (sym (zero_test tested) ∙ c.if-unused.true), both_true) c.wordless.ensures
 
-returns-3 : tie.Need-returns-3
+pub returns-then-kind-eq4 : goal.returns-then-kind-eq4
 unfolding fields
-returns-3 c =
+returns-then-kind-eq4 c =
     let s = c.before.before.before.before.before in
-    rw c.before.if3.true (c.finer-of.ensures ∙ ap (finer_of s.args.a s.args.b) (to_z-of_z s.ranges.word))
+    rw c.if-kind-eq4.true (c.finer_of.ensures ∙ ap (finer_of s.args.a s.args.b) (to_z-of_z s.ranges.word))
 
-returns-4 : tie.Need-returns-4
+pub returns : goal.returns
 unfolding fields measurement_of hit_of write_of
-returns-4 c =
+returns c =
     let tested = c.before.before in
     let s = tested.before.before in
     let k = s.args.kind in
-    rw (ne_eqb k 0 tested.before.if1.false, ne_eqb k 4 c.if3.false, ← zero_test tested, c.before.if2.false, both_false) (all_bad (eqb k 1) (eqb k 2) (eqb k 3))
-
-pub decode_spec : {M : Type 1} → statement M
-decode_spec = tie.close (tie.spec (search rules) returns (search rules) (search rules) returns-2 (search rules) returns-3 returns-4)
+    rw (ne_eqb k 0 tested.if-kind-eq0.false, ne_eqb k 4 c.if-kind-eq4.false, ← zero_test tested, c.if-unused.false, both_false) (all_bad (eqb k 1) (eqb k 2) (eqb k 3))

@@ -11,26 +11,22 @@ use Rattle.week.specs.Bridge.{windows_of}
 use Rattle.week.proofs.Storing.{stored_windows}
 use Rattle.state.specs.Stored.{meaning, with_windows}
 use Rattle.unit.proofs.Given.{accepted, turned_down}
-use Rattle.calls.proofs.set_windows.Statement.{statement}
-use Rattle.calls.proofs.set_windows.Tie as tie
+use Rattle.calls.proofs.set_windows.Goals as goal
 
-returns : tie.Need-returns
+pub returns-then-number-eq0 : goal.returns-then-number-eq0
 unfolding refusal effect windows_refusal
-returns c = λ s.
+returns-then-number-eq0 c = λ s.
     let tested = c.before in
-    let a = tested.before.before.args in
+    let a = tested.args in
     let windows = first_windows a.count a.windows.now in
-    let none = sym tested.if1.true ∙ tested.before.windows-refusal.ensures in
+    let none = sym tested.if-number-eq0.true ∙ tested.windows_refusal-number.ensures in
     let fit = zero_if (windows_fit windows) 15 (eq-eqb (windows_refusal windows) 0 (sym none)) in
-    let stored = ap windows_of c.kept.ensures ∙ stored_windows a.count a.windows.now fit in
+    let stored = ap windows_of c.kept-kept.ensures ∙ stored_windows a.count a.windows.now fit in
     accepted (with_windows a.stored.now s) _ (set_windows windows) none refl
     (λ i. with_week (record { place = s.core.place; windows = stored i }) (meaning s))
 
-returns-2 : tie.Need-returns-2
+pub returns : goal.returns
 unfolding refusal
-returns-2 c = λ s.
-    let a = c.before.before.args in
-    turned_down (with_windows a.stored.now s) (set_windows (first_windows a.count a.windows.now)) c.before.windows-refusal.ensures c.if1.false
-
-pub set_windows_spec : {M : Type 1} → statement M
-set_windows_spec = tie.close (tie.spec (λ c κs. tt) (λ c κs. tt) returns returns-2)
+returns c = λ s.
+    let a = c.args in
+    turned_down (with_windows a.stored.now s) (set_windows (first_windows a.count a.windows.now)) c.windows_refusal-number.ensures c.if-number-eq0.false

@@ -13,50 +13,47 @@ use Rattle.rules.specs.Run.{after_assign, effect}
 use Rattle.rules.specs.Inputs.{each_from}
 use Rattle.rules.proofs.SoundBuckets.{assign_allowed}
 use Rattle.buckets.specs.Bridge.{buckets_of}
-use Rattle.buckets.proofs.Sets.{set_at, assigned_anew}
+use Rattle.buckets.proofs.Sets.{set_at as stored_set, assigned_anew}
 use Rattle.inputs.specs.Bridge.{is_set, inputs_of, with_activity}
 use Rattle.state.specs.Stored.{Stored, meaning, with_rows, with_sets}
 use Rattle.unit.proofs.Given.{accepted, turned_down}
 use Rattle.calls.proofs.Concerned.{concerned}
-use Rattle.calls.proofs.assign_bucket.Statement.{statement}
-use Rattle.calls.proofs.assign_bucket.Tie as tie
+use Rattle.calls.proofs.assign_bucket.Goals as goal
+use Rattle.calls.proofs.assign_bucket.Goals.{Start}
 
 -- what the call is lent, when it begins, in a unit s
-abbrev found : tie.Start → Stored → Stored
+abbrev found : Start → Stored → Stored
 found c s =
     let a = c.args in
     with_sets (record { sets = a.sets.now; assigned = a.assigned.now })
     (with_rows (with_activity s.monitors a.level.now a.decay.now a.activity.now) s)
 
-returns : tie.Need-returns
+pub returns-then-number-eq0 : goal.returns-then-number-eq0
 unfolding refusal effect after_assign put_at_size each_from inputs_of
-returns c = λ s.
+returns-then-number-eq0 c = λ s.
     let sets = c.before.before.before.before.before in
     let sized = sets.before in
     let chosen = sized.before in
     let tested = chosen.before.before.before in
     let numbered = tested.before in
-    let a = numbered.before.args in
+    let a = numbered.args in
     let u = found numbered.before s in
     let b = u.buckets in
-    let number = numbered.assign-refusal.ensures in
-    let ok = assign_allowed a.i a.n (sym number ∙ tested.if1.true) in
+    let number = numbered.assign_refusal-number.ensures in
+    let ok = assign_allowed a.i a.n (sym number ∙ tested.if-number-eq0.true) in
     let low : a.n % 4 ≡ a.n = omega (arith, ok.1) in
-    let size = sized.type_size.ensures
-    ∙ ap (λ (x : Bucket). x.size) (set_at b a.n)
+    let size = sized.size_of-size.ensures
+    ∙ ap (λ (x : Bucket). x.size) (stored_set b a.n)
     ∙ ap (λ (n : ℕ). (set_at (buckets_of b) n).size) low in
-    let put = c.put-at-size.ensures s.monitors
-    ∙ (λ i. put_at_size (λ j. is_set (get_or (chosen.at-input.ensures i) (j - 1) 0)) (size i) (inputs_of u.monitors))
+    let put = c.put_at_size.ensures s.monitors
+    ∙ (λ i. put_at_size (λ j. is_set (get_or (chosen.at_input-concerned.ensures i) (j - 1) 0)) (size i) (inputs_of u.monitors))
     ∙ concerned u.monitors (set_at (buckets_of b) a.n).size (λ k. eqb a.i (k + 1)) in
-    let anew = (λ i. buckets_of (record { sets = a.sets.now; assigned = (sets.with-assigned.ensures i).assigned }))
+    let anew = (λ i. buckets_of (record { sets = a.sets.now; assigned = (sets.with_assigned-after.ensures i).assigned }))
     ∙ assigned_anew b a.i a.n ok.0 ok.1 in
-    accepted u _ (assign_bucket a.i a.n) (sym tested.if1.true ∙ number) refl (λ i. with_buckets (anew i) (with_inputs (put i) (meaning u)))
+    accepted u _ (assign_bucket a.i a.n) (sym tested.if-number-eq0.true ∙ number) refl (λ i. with_buckets (anew i) (with_inputs (put i) (meaning u)))
 
-returns-2 : tie.Need-returns-2
+pub returns : goal.returns
 unfolding refusal
-returns-2 c = λ s.
-    let a = c.before.before.args in
-    turned_down (found c.before.before s) (assign_bucket a.i a.n) c.before.assign-refusal.ensures c.if1.false
-
-pub assign_bucket_spec : {M : Type 1} → statement M
-assign_bucket_spec = tie.close (tie.spec (λ c κs. tt) (λ c κs. tt) (λ c κs. tt) (λ c κs. tt) (λ c κs. tt) returns returns-2)
+returns c = λ s.
+    let a = c.args in
+    turned_down (found c.before.before s) (assign_bucket a.i a.n) c.assign_refusal-number.ensures c.if-number-eq0.false

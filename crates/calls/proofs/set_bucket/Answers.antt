@@ -16,19 +16,19 @@ use Rattle.inputs.specs.Bridge.{is_set, inputs_of, with_activity}
 use Rattle.state.specs.Stored.{Stored, meaning, with_rows, with_sets}
 use Rattle.unit.proofs.Given.{accepted, turned_down}
 use Rattle.calls.proofs.Concerned.{concerned}
-use Rattle.calls.proofs.set_bucket.Statement.{statement}
-use Rattle.calls.proofs.set_bucket.Tie as tie
+use Rattle.calls.proofs.set_bucket.Goals as goal
+use Rattle.calls.proofs.set_bucket.Goals.{Start}
 
 -- what the call is lent, when it begins, in a unit s
-abbrev found : tie.Start → Stored → Stored
+abbrev found : Start → Stored → Stored
 found c s =
     let a = c.args in
     with_sets (record { sets = a.sets.now; assigned = a.assigned.now })
     (with_rows (with_activity s.monitors a.level.now a.decay.now a.activity.now) s)
 
-returns : tie.Need-returns
+pub returns-then-number-eq0 : goal.returns-then-number-eq0
 unfolding refusal effect after_set bucket_from put_at_size each_from inputs_of buckets_of
-returns c = λ s.
+returns-then-number-eq0 c = λ s.
     let wide = c.before in
     let sets = wide.before.before.before.before.before in
     let having = sets.before in
@@ -37,21 +37,18 @@ returns c = λ s.
     let start = numbered.before in
     let a = start.args in
     let u = found start s in
-    let number = numbered.set-refusal.ensures in
-    let ok = set_allowed a.n a.size a.high a.low a.d (sym number ∙ tested.if1.true) in
-    let put = c.put-at-size.ensures s.monitors
-    ∙ (λ i. put_at_size (λ j. is_set (get_or (having.having.ensures i) (j - 1) 0)) (wide.wide16.ensures.0 i) (inputs_of u.monitors))
+    let number = numbered.set_refusal-number.ensures in
+    let ok = set_allowed a.n a.size a.high a.low a.d (sym number ∙ tested.if-number-eq0.true) in
+    let put = c.put_at_size.ensures s.monitors
+    ∙ (λ i. put_at_size (λ j. is_set (get_or (having.having-concerned.ensures i) (j - 1) 0)) (wide.wide16.ensures.0 i) (inputs_of u.monitors))
     ∙ concerned u.monitors a.size (λ k. eqb (get_or a.assigned.now k 0 % 4) a.n) in
-    let anew = (λ i. buckets_of (record { sets = (sets.with-set.ensures i).sets; assigned = a.assigned.now }))
+    let anew = (λ i. buckets_of (record { sets = (sets.with_set-after.ensures i).sets; assigned = a.assigned.now }))
     ∙ set_anew u.buckets a.n a.size a.high a.low a.d ok.known start.ranges.size.fits start.ranges.high.fits start.ranges.low.fits ok.few in
-    accepted u _ (set_bucket a.n a.size a.high a.low a.d) (sym tested.if1.true ∙ number) refl
+    accepted u _ (set_bucket a.n a.size a.high a.low a.d) (sym tested.if-number-eq0.true ∙ number) refl
     (λ i. with_buckets (anew i) (with_inputs (put i) (meaning u)))
 
-returns-2 : tie.Need-returns-2
+pub returns : goal.returns
 unfolding refusal
-returns-2 c = λ s.
-    let a = c.before.before.args in
-    turned_down (found c.before.before s) (set_bucket a.n a.size a.high a.low a.d) c.before.set-refusal.ensures c.if1.false
-
-pub set_bucket_spec : {M : Type 1} → statement M
-set_bucket_spec = tie.close (tie.spec (λ c κs. tt) (λ c κs. tt) (λ c κs. tt) (λ c κs. tt) (λ c κs. tt) returns returns-2)
+returns c = λ s.
+    let a = c.args in
+    turned_down (found c.before.before s) (set_bucket a.n a.size a.high a.low a.d) c.set_refusal-number.ensures c.if-number-eq0.false
