@@ -1,4 +1,6 @@
 // A fresh unit of the buyer's own values (document 02, #105): which tables of bytes load, and the unit that a table makes.
+#![tactic(auto)]
+
 ghost use Rattle.std.specs.Prelude.{◌≡◌, ◌%◌, ltb, length, get_or};
 ghost use Rattle.rules.specs.Words.{if◌then◌else◌, every};
 ghost use Rattle.rules.specs.Registers.{map_size, registers, reads, stored, settings_from};
