@@ -11,9 +11,9 @@ use Rattle.rules.proofs.Sheets.{outputs}
 use Rattle.rules.proofs.Prints.{PrintPassed}
 use Rattle.pages.specs.Output.{laid_out}
 
-pub laid_out : (s records pages : List ℕ) → PrintPassed s (length records) (length pages)
+pub pages_laid_out : (s records pages : List ℕ) → PrintPassed s (length records) (length pages)
     → laid_out (front s (length records)) pages ≡ over (pages_of (record_count s) (front s (length records))) pages
 unfolding laid_out
-laid_out s records pages p =
+pages_laid_out s records pages p =
     let count : length (front s (length records)) / 4 ≡ record_count s = omega (arith, (outputs s records p.runs).written) in
     rw (count, le-ltb (length pages) (page_bytes * page_count (record_count s)) p.paper) refl

@@ -1,9 +1,12 @@
 // The rack program (document 01, "Run sheet and rack program"): reads a run sheet from standard input and prints its records, or its refusal, in one write.
-ghost use Rattle.io.specs.Counts.{IsPrefixLen};
+#![tactic(auto)]
+
+ghost use Rattle.std.specs.Prelude.{◌≡◌, ◌≤◌, ◌<◌, length, take, false};
+ghost use Rattle.std.specs.Io.KnownBytes.{Consumes, IsAtEnd};
 ghost use Rattle.rules.specs.Printout.{printed};
 ghost use Rattle.rack.specs.Front.{Front};
 
-use libc::{STDERR_FILENO, STDIN_FILENO, STDOUT_FILENO};
+use std::io::{Read, Write};
 
 // The rule `printed`: the text of a sheet's run on the standard fresh unit, at the front of the lent array, and its length. It is that of the part that the
 // run hands back; there is room for the most records that a sheet gives, 8,383.
@@ -27,24 +30,31 @@ struct Input {
     failed: bool,
 }
 
-// Reads standard input into the buffer.
-fn read_sheet(buffer: &mut [u8]) -> Input
-    ensures { IsPrefixLen result.length buffer.new }
+// Reads into the buffer: what was read is its front part, and where no read failed it is all that there was, or fills the buffer.
+// Not: the length of the buffer; the first read alone.
+fn read_sheet<R: Read>(reader: &mut R, buffer: &mut [u8]) -> Input
+    ensures within { result.length ≤ length buffer.new }
+    ensures part { result.length ≡ length (take result.length buffer.new) }
+    ensures bytes { Consumes (R.remaining reader.old) (R.remaining reader.new) (take result.length buffer.new) }
+    ensures whole { result.failed ≡ false → result.length < length buffer.new → IsAtEnd (R.remaining reader.new) }
 {
     let mut n = 0;
     while n < buffer.len() {
-        let got = libc::read(STDIN_FILENO, &mut buffer[n..]);
-        if got < 0 {
-            return Input {
-                length: n,
-                failed: true,
-            };
+        match reader.read(&mut buffer[n..]) {
+            Ok(0) => {
+                return Input {
+                    length: n,
+                    failed: false,
+                };
+            }
+            Ok(more) => n += more,
+            Err(_) => {
+                return Input {
+                    length: n,
+                    failed: true,
+                };
+            }
         }
-        let more = io::count(got, &buffer[n..]);
-        if more == 0 {
-            break;
-        }
-        n += more;
     }
     Input {
         length: n,
@@ -54,21 +64,19 @@ fn read_sheet(buffer: &mut [u8]) -> Input
 
 // "The program reads a sheet from standard input": all of it, or as much as shows that it is over 65,535 bytes. Where a read fails nothing is printed; that, and
 // a write that fails, is said on standard error.
-fn main() {
-    let mut buffer = io::large_buffer();
-    let input = read_sheet(&mut buffer);
+fn main(rt: HostRuntime) {
+    let mut buffer = [0u8; 65536];
+    let input = read_sheet(&mut rt.stdin(), &mut buffer);
     if input.failed {
-        io::write_all(STDERR_FILENO, b"rack: standard input cannot be read\n");
+        let _ = rt
+            .stderr()
+            .write_all(b"rack: standard input cannot be read\n");
         return;
     }
     let n = input.length;
     let mut out = [0u8; 151000];
     let length = print_sheet(&buffer[..n], &mut out);
-    let written = io::write_all(STDOUT_FILENO, &out[..length]);
-    if !written {
-        io::write_all(
-            STDERR_FILENO,
-            b"rack: not all lines could be written to standard output\n",
-        );
+    if rt.stdout().write_all(&out[..length]).is_err() {
+        let _ = rt.stderr().write_all(b"rack: not all lines could be written to standard output\n");
     }
 }

@@ -1,4 +1,4 @@
-// The run of a sheet on the standard fresh unit (document 01, "Run sheet and rack program"): its settings, its events and their records; and what is exported.
+// The run of a sheet on the standard fresh unit (document 01, "Run sheet and rack program"): its settings, its events and their records; and what run_c exports.
 // Each contract is an equation with a rule of crates/rules/specs/Sheet.antt; the rule is named above the function.
 ghost use Rattle.std.specs.Prelude.{◌≡◌, ◌*◌, ◌≤◌, length};
 ghost use Rattle.rules.specs.Run as rules;
@@ -161,8 +161,7 @@ pub fn run_into(sheet: &[u8], out: &mut [u8]) -> usize
     let settings = c.settings;
     let events = c.events;
     let u = state::fresh();
-    let m = u.monitors;
-    let soak = m.soak;
+    let soak = u.monitors.soak;
     let mut regs = u.regs;
     let mut sums = u.history.sums;
     let mut building = u.history.building;
@@ -211,12 +210,11 @@ pub fn run<'a>(sheet: &[u8], out: &'a mut [u8]) -> &'a mut [u8]
     &mut out[..n]
 }
 
-// ---- exported
+// ---- what run_c exports
 
 // `sheet::check`, for C and Rust.
 // Not: every output taken as long enough; room asked for the events' records alone.
-#[unsafe(no_mangle)]
-pub extern "C" fn sheet_check(sheet: &[u8], room: usize) -> u8
+pub fn sheet_check(sheet: &[u8], room: usize) -> u8
     ensures { result ≡ rules-sheet.check sheet.now room }
 {
     sheet::check(sheet, room)
@@ -224,8 +222,7 @@ pub extern "C" fn sheet_check(sheet: &[u8], room: usize) -> u8
 
 // `run_into`, for C and Rust.
 // Not: the length of the output returned; the number of records returned.
-#[unsafe(no_mangle)]
-pub extern "C" fn sheet_run(sheet: &[u8], out: &mut [u8]) -> usize
+pub fn sheet_run(sheet: &[u8], out: &mut [u8]) -> usize
     ensures value { result ≡ length (front sheet.now (length out.old)) }
     ensures out_after { out.new ≡ output_after sheet.now out.old }
 {

@@ -1,0 +1,36 @@
+-- After i events their records are written, and the rest, run from the state so far, gives the rest of them. Keys and floor follow the registers.
+use Prim.Native.Nat.{ℕ, ◌≤◌, ◌<◌, ◌-◌, ◌*◌, ◌+◌, ◌^◌}
+use mathlib.Core.Path.{◌≡◌, sym, ap, ◌∙◌}
+use mathlib.Core.List.{List}
+use native.Mathlib.Nat.{sub-zero}
+use native.Mathlib.Omega.{arith}
+use lib.IntN.{ℤ}
+use lib.ListN.{length, drop, length-drop}
+use borrow.Author.Rules.{rules}
+use Rattle.rules.specs.Registers.{settings_from}
+use Rattle.rules.specs.Sheet as rules
+use Rattle.rules.specs.Sheet.{bad, decode, events_of, records}
+use Rattle.buckets.specs.Bridge.{numbers, numbers_of}
+use Rattle.inputs.specs.declared.Monitors.{Monitors}
+use Rattle.selection.specs.Bridge.{Follows}
+use Rattle.state.specs.Stored.{Stored, meaning, with_core, with_rows, with_registers, with_windows, with_sums, with_building, with_backup}
+use Rattle.state.specs.declared.Core.{Core}
+use Rattle.fields.specs.Bridge.{decoded_of}
+use Rattle.rules.proofs.Parts.{part_all}
+use Rattle.sheet.proofs.Parts.{event_part, event_length}
+use Rattle.run.proofs.Lying.{rows, lying}
+use Rattle.run.proofs.Turns.{Going, going_start, going_put, going_done, events_more, events_stop}
+use Rattle.run.proofs.run_events.Given as goal
+
+abbrev pub invariant-loop-i : goal.invariant-loop-i
+invariant-loop-i l =
+    (l.i ≤ l.n)
+    × Follows (settings_from l.regs) l.keys l.handed
+    × ((s : Stored) → numbers l.sizes l.highs l.lows l.lasts ≡ numbers_of s.buckets
+    → Going (records (meaning (lying (rows l.initial.level l.initial.decay l.initial.activity l.initial.frequency l.initial.remainder l.initial.soak) l.windows l.initial.regs l.initial.sums l.initial.building l.initial.backup l.initial.k s)) (events_of l.n l.part)) l.initial.out
+    (4 * l.i) (meaning (lying (rows l.level l.decay l.activity l.frequency l.remainder l.soak) l.windows l.regs l.sums l.building l.backup l.k s))
+    (events_of (l.n - l.i) (drop (8 * l.i) l.part)) l.out)
+
+abbrev pub decreases-loop-i : goal.decreases-loop-i
+decreases-loop-i l =
+    l.n - l.i

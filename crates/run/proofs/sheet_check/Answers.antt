@@ -1,0 +1,6 @@
+-- What `sheet::check` ensures.
+use borrow.Author.Rules.{rules}
+use Rattle.run.proofs.sheet_check.Goals as goal
+
+pub returns : goal.returns
+returns c = c.check.ensures
