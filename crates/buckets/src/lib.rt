@@ -1,6 +1,8 @@
 // The four sets of bucket numbers and the set of each input (document 02, #104): fresh, as four rows of eight for the ticks, and set or assigned anew.
 // A set's numbers are its size, the level that sets the activity alarm, the level that clears it, and the last decay count: one less than the ticks of a
 // decay.
+#![tactic(auto)]
+
 ghost use Rattle.std.specs.Prelude.{◌≡◌, [], ◌∷◌, ◌+◌, ◌-◌, ◌/◌, ◌%◌, ◌^◌, ◌≤◌, min, eqb, get_or};
 ghost use Rattle.rules.specs.Words.{if◌then◌else◌};
 ghost use Rattle.rules.specs.Buckets as rules;

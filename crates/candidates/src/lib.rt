@@ -1,6 +1,8 @@
 // The candidates of the selection (document 01, step 4): the best of them, and which references are available.
 // The registers and the inputs' soaks are lent for reading, and the contracts hold whatever else the inputs are. The settings are `settings_from` of the
 // registers. What follows from them alone, the keys, is made after a write and handed to the ticks.
+#![tactic(auto)]
+
 ghost use Rattle.std.specs.Prelude.{◌≡◌, ◌+◌, ◌*◌, ◌%◌, min, ◌&&◌, eqb, get_or};
 ghost use Rattle.rules.specs.Words.{if◌then◌else◌, bit_of, is_input};
 ghost use Rattle.rules.specs.Monitors.{full_soak};

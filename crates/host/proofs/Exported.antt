@@ -4,7 +4,7 @@ use mathlib.Core.Path.{◌≡◌, refl}
 use Prim.Native.Nat.{suc}
 use mathlib.Core.List.{[], ◌∷◌, List}
 use seplogic.Ra.Ura.{Ura}
-use mir.Syntax.{Fn, Name, Ty, ty_ref, mut, named}
+use mir.Syntax.{Fn, Callee, Ty, ty_ref, mut, named}
 use mir.Val.{Val, vptr}
 use base.Logic.{SProp, ent, emp, via, fst∗}
 use base.Fml.{flft, fobs, fbor}
@@ -90,15 +90,15 @@ module _ (ps : List Param) (R : RattleType) where
         -- what a walk begins with
         abbrev pub begun : List (Item 𝓤)
         begun =
-            ‵ (flft κs.0 qs.0) ∷ ‵ ((MutRef (named 0) κs.0 T.the_row).own_val a.0 (vptr a.0.ptr.0 a.0.ptr.1 ∷ []))
+            ‵ (flft κs.0 qs.0) ∷ ‵ ((MutRef (named 0) κs.0 T.the_row).own_val a.0 (vptr a.0.ref_ptr.0 a.0.ref_ptr.1 ∷ []))
             ∷ raw (toks 𝓛 (lifetimes ps) κs.1 qs.1) ∷ ‵ (Owned (suc (lifetimes ps)) κs ps 1 (its ps) a.1) ∷ []
 
         -- and with what it ends, where the machine value v of a result r has been returned and the unit is h
         abbrev pub ended : State → R.Denot → Val → List (Item 𝓤)
         ended h r v =
-            ‵ (fobs a.0.name ((T.the_row).coded.code h)) ∷ ‵ (fbor κs.0 (Body (mem T.the_row) a.0.ptr.0 a.0.ptr.1 a.0.name))
+            ‵ (fobs a.0.ghost_name ((T.the_row).coded.code h)) ∷ ‵ (fbor κs.0 (Body (mem T.the_row) a.0.ref_ptr.0 a.0.ref_ptr.1 a.0.ghost_name))
             ∷ ‵ (flft κs.0 qs.0) ∷ raw (toks 𝓛 (lifetimes ps) κs.1 qs.1) ∷ ‵ (Had (suc (lifetimes ps)) κs ps 1 (its ps) a.1)
-            ∷ ‵ (R.own r (v ∷ [])) ∷ []
+            ∷ ‵ (R.own_val r (v ∷ [])) ∷ []
 
         pub ends : (h : State) (r : R.Denot) (v : Val) → ψ a.0.now x r h → ent 𝓤 (⋆ 𝓛 (ended h r v)) (Post v)
         ends h r v e =
@@ -107,7 +107,7 @@ module _ (ps : List Param) (R : RattleType) where
             says ! e $ move ! (2 ∷ 3 ∷ []) $ join ! $ frame ! $ feq_i ! (List Val) (mut_vals a.0) (mut_vals a.0) refl $ fjoin3 ! $ fjoin ! $ done !
 
         abbrev pub Runs : Calls 𝓤 H → Loops 𝓤 H → Fn → SProp 𝓤
-        Runs C Λ f = WpFn 𝓤 H C Λ f (vptr a.0.ptr.0 a.0.ptr.1 ∷ values ps x) Post
+        Runs C Λ f = WpFn 𝓤 H C Λ f (vptr a.0.ref_ptr.0 a.0.ref_ptr.1 ∷ values ps x) Post
 
       module _ where
         -- what is lent comes back
@@ -125,12 +125,12 @@ module _ (ps : List Param) (R : RattleType) where
             (qed 𝓛 ((‵ (flft κs.0 qs.0) ⊛ raw (toks 𝓛 (lifetimes ps) κs.1 qs.1))
             ∷ ‵ (owns (MutRef (named 0) κs.0 T.the_row ∷ Types (suc (lifetimes ps)) κs ps 1 (its ps)) a (at κs qs a).0.4) ∷ []) ∵
             split ! $ move ! (2 ∷ []) $ fsplit ! $ move ! (2 ∷ 0 ∷ 3 ∷ 1 ∷ []) $
-            regoal ! (λ (vs : List Val). prop (WpFn 𝓤 H C Λ f (vptr a.0.ptr.0 a.0.ptr.1 ∷ vs) (Post κs qs a)))
+            regoal ! (λ (vs : List Val). prop (WpFn 𝓤 H C Λ f (vptr a.0.ref_ptr.0 a.0.ref_ptr.1 ∷ vs) (Post κs qs a)))
             (in_a_row (suc (lifetimes ps)) κs ps 1 (its ps) a.1) refl $ by !
             (go κs qs a (are_typed (suc (lifetimes ps)) κs ps 1 (its ps) a.1 are.1))))
 
   pub exported : {M : Type 1} {𝓤 : Ura M} (𝓛 : Logic 𝓤) (𝓜 : Model 𝓤 𝓛.H) (𝓡 : Running 𝓤 𝓛.H 𝓜) (γ : Env) (ψ : Clause) (f : Fn)
-      (self callee : Name) (r : Routine) (known : Contract 𝓤)
+      (self callee : Callee) (r : Routine) (known : Contract 𝓤)
       → γ callee ≡ r
       → Triple 𝓤 (𝓡.run r) known
       → ((C : Calls 𝓤 𝓛.H) (Λ : Loops 𝓤 𝓛.H) → FmC 𝓤 𝓛.H 𝓛.laws C → Triple 𝓤 (C callee) known

@@ -2,11 +2,10 @@
 use mathlib.Core.Path.{◌≡◌, refl}
 use Prim.Native.Nat.{ℕ, zero, suc, ◌+◌}
 use mathlib.Core.List.{[], ◌∷◌, List}
-use lib.Dec.{T}
 use lib.ListN.{get_or}
 use seplogic.Ra.Ura.{Ura}
-use seplogic.Ra.TreeShare.{full_share}
-use mir.Syntax.{Ty, Place, Opd as Operand, Body as Code, seq, call, Name}
+use base.Fraction.{full_share}
+use mir.Syntax.{Ty, Place, Opd as Operand, Body as Code, seq, call, Callee}
 use mir.Val.{Val, vptr}
 use base.Fml.{Share, fat}
 use prog.Wp.{Env, Calls, Loops, no_local}
@@ -34,7 +33,7 @@ use Rattle.state.specs.contracts.Core as CO
 use Rattle.state.proofs.Core.TheLaws as CO'
 use Rattle.state.specs.contracts.Unit as T
 use Rattle.state.proofs.Unit.TheLaws as T'
-use Rattle.host.proofs.Exported.{its, Clause}
+use Rattle.host.proofs.Exported.{its}
 use Rattle.host.proofs.Lent.{lies, Arrays, arrays_of, make, val_t, val_c, kept_of, sound_of}
 
 -- the core, as it is passed
@@ -79,13 +78,13 @@ module _ (ms : List Mark) (cs : List Small) (ps : List Param) (R : RattleType) {
     (n₀ : ℕ) (κs₀ : Lfts n₀) (j₀ : ℕ) (pick₀ : Picks n₀ ps) (qs : Shares (lifetimes ps)) (a : Denots (Types n₀ κs₀ ps j₀ pick₀)) (b o : ℕ) (xs : Values cs) where
   open 𝓛 use {H}
 
-  module _ {K : Type 0} {Γ : List (Item 𝓤)} {E : Env 𝓤 H} {C : Calls 𝓤 H} {Λ : Loops 𝓤 H} {aim : Aim 𝓤 H} {f : Name} {os : List Operand} {d : Place} {rest : Code} where
+  module _ {K : Type 0} {Γ : List (Item 𝓤)} {E : Env 𝓤 H} {C : Calls 𝓤 H} {Λ : Loops 𝓤 H} {aim : Aim 𝓤 H} {f : Callee} {os : List Operand} {d : Place} {rest : Code} where
     pub unit_calls : K → FmC 𝓤 H 𝓛.laws C → Triple 𝓤 (C f) (callee.Known cs (fs ms) ps R 𝓤 φ 𝓛) → (q : Share) → AllFit q (fs ms) → Are cs xs
         → (h : State) → Is T.the_row h (val_t h ∷ [])
         → ((i₁ i₂ i₃ i₄ i₅ : Item 𝓤) → Opds K 𝓛 (i₁ ∷ i₂ ∷ i₃ ∷ i₄ ∷ i₅ ∷ Γ) E os (copied cs xs (pointers (fs ms) b (at ms o) (values ps (data_of n₀ κs₀ ps j₀ pick₀ a)))))
         → ((v : Val) (r : R.Denot) (zs : Changes (fs ms)) → φ xs (chosen all_arrays ms (arrays_of h)) (data_of n₀ κs₀ ps j₀ pick₀ a) r (lists_after ms h zs) → Is R r (v ∷ [])
         → AllSound all_arrays (arrays_after ms h zs)
-        → Seq K 𝓛 (‵ (R.own r (v ∷ [])) ∷ ‵ (fat q T'.mir b o (val_t (with ms h h.core zs))) ∷ raw (toks 𝓛 (lifetimes ps) (pick₀ κs₀) qs)
+        → Seq K 𝓛 (‵ (R.own_val r (v ∷ [])) ∷ ‵ (fat q T'.mir b o (val_t (with ms h h.core zs))) ∷ raw (toks 𝓛 (lifetimes ps) (pick₀ κs₀) qs)
         ∷ ‵ (Had n₀ κs₀ ps j₀ pick₀ a) ∷ Γ) (lands C Λ E d v rest aim))
         → Seq K 𝓛 (‵ (fat q T'.mir b o (val_t h)) ∷ raw (toks 𝓛 (lifetimes ps) (pick₀ κs₀) qs) ∷ ‵ (Owned n₀ κs₀ ps j₀ pick₀ a) ∷ Γ)
         (runs C Λ E (seq (call f os d) rest) aim)
@@ -125,7 +124,7 @@ module _ (ms : List Mark) (cs : List Small) (ps : List Param) (R : RattleType) {
   abbrev tokens : Item 𝓤
   tokens = raw (toks 𝓛 (lifetimes ps) κs.1 qs)
 
-  module _ {K : Type 0} {Γ : List (Item 𝓤)} {E : Env 𝓤 H} {C : Calls 𝓤 H} {Λ : Loops 𝓤 H} {aim : Aim 𝓤 H} {f : Name} {d : Place} {rest : Code} where
+  module _ {K : Type 0} {Γ : List (Item 𝓤)} {E : Env 𝓤 H} {C : Calls 𝓤 H} {Λ : Loops 𝓤 H} {aim : Aim 𝓤 H} {f : Callee} {d : Place} {rest : Code} where
     pub lends_on : K → FmC 𝓤 H 𝓛.laws C → Triple 𝓤 (C f) (callee.Known cs (fs ms) ps R 𝓤 φ 𝓛) → (q : Share) → AllFit q (fs ms) → Are cs xs
         → (h : State) → Is T.the_row h (val_t h ∷ [])
         → (ρ : Ty) (l : ℕ) → get_or E 1 (no_local 𝓤 H) ≡ (ρ, l) → (bs : Blocks τs) → Stand E (no_local 𝓤 H) 2 τs bs → (n : ℕ) (ds : Blocks ρs) → Stand E (no_local 𝓤 H) n ρs ds
@@ -134,7 +133,7 @@ module _ (ms : List Mark) (cs : List Small) (ps : List Param) (R : RattleType) {
         → Opds K 𝓛 (i₁ ∷ i₂ ∷ i₃ ∷ i₄ ∷ i₅ ∷ i₆ ∷ i₇ ∷ i₈ ∷ Γ) E (small os) (copied cs xs ws))
         → ((v : Val) (r : R.Denot) (zs : Changes (fs ms)) → φ xs (chosen all_arrays ms (arrays_of h)) (data_of (suc (lifetimes ps)) κs ps 1 (its ps) a) r (lists_after ms h zs) → Is R r (v ∷ [])
         → AllSound all_arrays (arrays_after ms h zs)
-        → Seq K 𝓛 (‵ (R.own r (v ∷ [])) ∷ ‵ (fat q T'.mir b o (val_t (with ms h h.core zs))) ∷ tokens ∷ ‵ (Had (suc (lifetimes ps)) κs ps 1 (its ps) a)
+        → Seq K 𝓛 (‵ (R.own_val r (v ∷ [])) ∷ ‵ (fat q T'.mir b o (val_t (with ms h h.core zs))) ∷ tokens ∷ ‵ (Had (suc (lifetimes ps)) κs ps 1 (its ps) a)
         ∷ row-cells ρs us ds ∷ ‵ (fat full_share ρ l zero (vptr b o)) ∷ row-cells τs vs bs ∷ Γ) (lands C Λ E d v rest aim))
         → Seq K 𝓛 (‵ (fat q T'.mir b o (val_t h)) ∷ tokens ∷ ‵ (Owned (suc (lifetimes ps)) κs ps 1 (its ps) a)
         ∷ rooms ρs ds ∷ ‵ (fat full_share ρ l zero (vptr b o)) ∷ row-cells τs vs bs ∷ Γ)

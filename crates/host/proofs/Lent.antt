@@ -4,6 +4,7 @@ use Prim.Native.Nat.{ℕ}
 use mir.Syntax.{w8, w16, w32, w64}
 use mir.Val.{Val}
 use denote.Laws.{Is}
+use denote.Copied.{uint_Copied, sint_Copied}
 use denote.Plain.{uint_Makes}
 use denote.Signed.{sint_Makes}
 use denote.Struct.Field.{u8-field, u16-field, u32-field, i64-field}
@@ -26,16 +27,16 @@ use Rattle.state.proofs.Unit.TheLaws as T'
 
 -- ---- the arrays' elements
 abbrev bytes : ℕ → Stretch
-bytes n = record { element = u8-field; laws = LL.u8-laws; count = n; plain = λ 𝓛. uint_Makes 𝓛 w8 }
+bytes n = record { element = u8-field; laws = LL.u8-laws; count = n; plain = λ 𝓛. uint_Makes 𝓛 w8; alone = tt; copied = λ 𝓛. uint_Copied 𝓛 w8 }
 
 abbrev row : Stretch
-row = record { element = u16-field; laws = LL.u16-laws; count = 8; plain = λ 𝓛. uint_Makes 𝓛 w16 }
+row = record { element = u16-field; laws = LL.u16-laws; count = 8; plain = λ 𝓛. uint_Makes 𝓛 w16; alone = tt; copied = λ 𝓛. uint_Copied 𝓛 w16 }
 
 abbrev words : ℕ → Stretch
-words n = record { element = u32-field; laws = LL.u32-laws; count = n; plain = λ 𝓛. uint_Makes 𝓛 w32 }
+words n = record { element = u32-field; laws = LL.u32-laws; count = n; plain = λ 𝓛. uint_Makes 𝓛 w32; alone = tt; copied = λ 𝓛. uint_Copied 𝓛 w32 }
 
 abbrev sums : Stretch
-sums = record { element = i64-field; laws = LL.i64-laws; count = 64; plain = λ 𝓛. sint_Makes 𝓛 w64 }
+sums = record { element = i64-field; laws = LL.i64-laws; count = 64; plain = λ 𝓛. sint_Makes 𝓛 w64; alone = tt; copied = λ 𝓛. sint_Copied 𝓛 w64 }
 
 -- ---- the unit's fields
 abbrev pub lies : Layout

@@ -4,10 +4,9 @@
 use mathlib.Core.Path.{◌≡◌, refl, ap, subst}
 use Prim.Native.Nat.{ℕ, zero}
 use mathlib.Core.List.{[], ◌∷◌, List}
-use lib.Dec.{T}
 use seplogic.Ra.Ura.{Ura}
-use seplogic.Ra.TreeShare.{full_share}
-use mir.Syntax.{Ty, ty_unit, place, deref, field, copy, opd_unit, rv_opd, seq, assign, call, return, local, value_local, Fn, Name}
+use base.Fraction.{full_share}
+use mir.Syntax.{Ty, ty_unit, place, deref, field, copy, opd_unit, rv_opd, seq, assign, call, return, local, value_local, Fn, Callee}
 use mir.Val.{Val, vunit, vptr}
 use base.Logic.{ent}
 use base.Fml.{fat, flft, fobs, fbor, froom, fdies}
@@ -30,9 +29,9 @@ use denote.Struct.Laws as LL
 use denote.Triple.Statement.{Triple}
 use denote.Triple.Entry.{Args}
 use Rattle.lend.proofs.Row.{Blocks, declared, placed, copies, Stand, shift, stands, rooms, alloc_row, free_row}
-use Rattle.lend.proofs.Params.{lifetimes, Owned}
+use Rattle.lend.proofs.Params.{Owned}
 use Rattle.lend.proofs.Loans.{all_of_the_whole, Changes, pointers, ref_tys}
-use Rattle.lend.proofs.Fields.{paths, others}
+use Rattle.lend.proofs.Fields.{paths}
 use Rattle.lend.proofs.Chosen.{Mark, chosen, steps, takes, pointers_typed, ref_copies}
 use Rattle.lend.proofs.Callee as callee
 use Rattle.state.specs.declared.Unit.{Unit as State}
@@ -43,13 +42,15 @@ use Rattle.state.specs.contracts.Unit as T
 use Rattle.state.proofs.Unit.TheLaws as T'
 use Rattle.host.proofs.Thin.{unit_spelt}
 use Rattle.host.proofs.Exported.{its, reference, lent, Clause, Shown, Post, begun, ends, Runs, exported}
-use Rattle.host.proofs.Lending.{core, all_arrays, fs, at, lists_after, arrays_after, with, core_stored, lends_on}
+use Rattle.host.proofs.Lending.{all_arrays, fs, at, lists_after, arrays_after, with, core_stored, lends_on}
 use Rattle.host.proofs.Lent.{lies, arrays_of, val_t, val_c, made}
 
-abbrev pub makes : List Mark → Name → Fn
+abbrev pub makes : List Mark → Callee → Fn
 makes ms f = record {
   lifetimes = 1;
   outlives = [];
+  ty_params = [];
+  givens = 0;
   params = 1;
   locals = local ty_unit value_local ∷ local reference value_local ∷ local CO'.mir value_local ∷ declared (ref_tys (fs ms)) [];
   body = takes (fs ms) (steps all_arrays ms (paths lies [] (λ st. st) zero tt)) T'.mir 3
@@ -64,7 +65,7 @@ module _ (ms : List Mark) (φ : callee.Clause [] (fs ms) [] CO.the_row) (ψ : Cl
 
 module _ (ms : List Mark) (φ : callee.Clause [] (fs ms) [] CO.the_row) (ψ : Clause [] unit) (tells : Tells ms φ ψ)
     {M : Type 1} {𝓤 : Ura M} (𝓛 : Logic 𝓤) (C : Calls 𝓤 𝓛.H) (Λ : Loops 𝓤 𝓛.H) (fm : FmC 𝓤 𝓛.H 𝓛.laws C)
-    (f : Name) (met : Triple 𝓤 (C f) (callee.Known [] (fs ms) [] CO.the_row 𝓤 φ 𝓛))
+    (f : Callee) (met : Triple 𝓤 (C f) (callee.Known [] (fs ms) [] CO.the_row 𝓤 φ 𝓛))
     (κs : Lfts 1) (qs : Shares 1) (a : Args (lent [] unit).signature κs) where
   open 𝓛 use {H}
 
@@ -72,10 +73,10 @@ module _ (ms : List Mark) (φ : callee.Clause [] (fs ms) [] CO.the_row) (ψ : Cl
   h = a.0.now
 
   abbrev b : ℕ
-  b = a.0.ptr.0
+  b = a.0.ref_ptr.0
 
   abbrev o : ℕ
-  o = a.0.ptr.1
+  o = a.0.ref_ptr.1
 
   abbrev ρs : List Ty
   ρs = ref_tys (fs ms)
@@ -85,9 +86,10 @@ module _ (ms : List Mark) (φ : callee.Clause [] (fs ms) [] CO.the_row) (ψ : Cl
     E = (ty_unit, l₀) ∷ (reference, l₁) ∷ (CO'.mir, lₖ) ∷ placed ρs cs []
 
     at_refs : Stand E (no_local 𝓤 H) 3 ρs cs
-    at_refs = shift _ _ (no_local 𝓤 H) 2 ρs cs (shift _ _ (no_local 𝓤 H) 1 ρs cs (shift _ _ (no_local 𝓤 H) 0 ρs cs (stands ρs cs [] (no_local 𝓤 H))))
+    at_refs = shift (ty_unit, l₀) ((reference, l₁) ∷ (CO'.mir, lₖ) ∷ placed ρs cs []) (no_local 𝓤 H) 2 ρs cs
+        (shift (reference, l₁) ((CO'.mir, lₖ) ∷ placed ρs cs []) (no_local 𝓤 H) 1 ρs cs (shift (CO'.mir, lₖ) (placed ρs cs []) (no_local 𝓤 H) 0 ρs cs (stands ρs cs [] (no_local 𝓤 H))))
 
-    runs_on : Sq 𝓛 (‵ (fobs a.0.name ((T.the_row).coded.code h)) ∷ ‵ (fbor κs.0 (Body (mem T.the_row) b o a.0.name)) ∷ ‵ (flft κs.0 qs.0)
+    runs_on : Sq 𝓛 (‵ (fobs a.0.ghost_name ((T.the_row).coded.code h)) ∷ ‵ (fbor κs.0 (Body (mem T.the_row) b o a.0.ghost_name)) ∷ ‵ (flft κs.0 qs.0)
         ∷ raw (toks 𝓛 0 κs.1 qs.1) ∷ ‵ (Owned 1 κs [] 1 (its []) a.1) ∷ rooms ρs cs
         ∷ ‵ (fat full_share reference l₁ 0 (vptr b o)) ∷ ‵ (fdies reference l₁) ∷ ‵ (froom CO'.mir lₖ 0) ∷ ‵ (fdies CO'.mir lₖ) ∷ ‵ (froom ty_unit l₀ 0) ∷ ‵ (fdies ty_unit l₀) ∷ [])
         (runs C Λ E (makes ms f).body (at_ret E (Post [] unit 𝓤 ψ 𝓛 κs qs a)))
@@ -130,7 +132,7 @@ module _ (ms : List Mark) (φ : callee.Clause [] (fs ms) [] CO.the_row) (ψ : Cl
 
 pub makes_anew : {M : Type 1} {𝓤 : Ura M} (𝓛 : Logic 𝓤) (𝓜 : Model 𝓤 𝓛.H) (𝓡 : Running 𝓤 𝓛.H 𝓜) (γ : Binds) (ms : List Mark)
     (φ : callee.Clause [] (fs ms) [] CO.the_row) (ψ : Clause [] unit) → Tells ms φ ψ
-    → (self f : Name) (r : Routine)
+    → (self f : Callee) (r : Routine)
     → γ f ≡ r
     → Triple 𝓤 (𝓡.run r) (callee.Known [] (fs ms) [] CO.the_row 𝓤 φ 𝓛)
     → Closed 𝓤 𝓛.H (tables 𝓤 𝓛.H 𝓜 𝓡 γ).C (tables 𝓤 𝓛.H 𝓜 𝓡 γ).Λ self (makes ms f)

@@ -4,10 +4,9 @@
 use mathlib.Core.Path.{◌≡◌, refl}
 use Prim.Native.Nat.{ℕ, zero, suc}
 use mathlib.Core.List.{[], ◌∷◌, List}
-use lib.Dec.{T}
 use seplogic.Ra.Ura.{Ura}
-use seplogic.Ra.TreeShare.{full_share}
-use mir.Syntax.{Ty, ty_int, w8, place, seq, call, return, local, value_local, Fn, Name}
+use base.Fraction.{full_share}
+use mir.Syntax.{Ty, ty_int, w8, place, seq, call, return, local, value_local, Fn, Callee}
 use mir.Val.{Val, vptr}
 use base.Logic.{ent}
 use base.Fml.{fat, flft, fobs, fbor, froom, fdies}
@@ -32,7 +31,7 @@ use denote.Triple.Entry.{Args}
 use Rattle.lend.proofs.Row.{Blocks, declared, placed, after, copies, Stand, shift, stands, stand_after, cells as row-cells, rooms, alloc_row, pass_row, free_row}
 use Rattle.lend.proofs.Params.{Param, lifetimes, Data, values, tys, Owned}
 use Rattle.lend.proofs.Loans.{all_of_the_whole, Changes, pointers, ref_tys}
-use Rattle.lend.proofs.Fields.{paths, others}
+use Rattle.lend.proofs.Fields.{paths}
 use Rattle.lend.proofs.Chosen.{Mark, chosen, steps, takes, pointers_typed, ref_copies}
 use Rattle.lend.proofs.Callee as callee
 use Rattle.state.specs.declared.Unit.{Unit as State}
@@ -40,17 +39,19 @@ use Rattle.state.specs.contracts.Unit as T
 use Rattle.state.proofs.Unit.TheLaws as T'
 use Rattle.host.proofs.Thin.{unit_spelt}
 use Rattle.host.proofs.Exported.{its, reference, lent, Clause, Shown, x, Post, begun, ends, Runs, exported}
-use Rattle.host.proofs.Lending.{core, all_arrays, fs, at, lists_after, arrays_after, with, lends_on}
+use Rattle.host.proofs.Lending.{all_arrays, fs, at, lists_after, arrays_after, with, lends_on}
 use Rattle.host.proofs.Lent.{lies, arrays_of, val_t, core_of, made}
 
 module _ (ms : List Mark) (τs : List Ty) where
   abbrev the_refs : ℕ
   the_refs = suc (suc (after τs 0))
 
-  abbrev pub passed_on : ℕ → Name → Fn
+  abbrev pub passed_on : ℕ → Callee → Fn
   passed_on lifetimes f = record {
     lifetimes = lifetimes;
     outlives = [];
+    ty_params = [];
+    givens = 0;
     params = suc (after τs 0);
     locals = local (ty_int w8) value_local ∷ local reference value_local ∷ declared τs (declared (ref_tys (fs ms)) []);
     body = takes (fs ms) (steps all_arrays ms (paths lies [] (λ st. st) zero tt)) T'.mir the_refs
@@ -64,7 +65,7 @@ module _ (ms : List Mark) (ps : List Param) (φ : callee.Clause [] (fs ms) ps u8
 
 module _ (ms : List Mark) (ps : List Param) (φ : callee.Clause [] (fs ms) ps u8) (ψ : Clause ps u8) (tells : Tells ms ps φ ψ)
     {M : Type 1} {𝓤 : Ura M} (𝓛 : Logic 𝓤) (C : Calls 𝓤 𝓛.H) (Λ : Loops 𝓤 𝓛.H) (fm : FmC 𝓤 𝓛.H 𝓛.laws C)
-    (f : Name) (met : Triple 𝓤 (C f) (callee.Known [] (fs ms) ps u8 𝓤 φ 𝓛))
+    (f : Callee) (met : Triple 𝓤 (C f) (callee.Known [] (fs ms) ps u8 𝓤 φ 𝓛))
     (κs : Lfts (suc (lifetimes ps))) (qs : Shares (suc (lifetimes ps))) (a : Args (lent ps u8).signature κs)
     (typed : Typed (tys ps 1) (values ps (x ps u8 𝓤 ψ 𝓛 κs qs a))) where
   open 𝓛 use {H}
@@ -73,10 +74,10 @@ module _ (ms : List Mark) (ps : List Param) (φ : callee.Clause [] (fs ms) ps u8
   h = a.0.now
 
   abbrev b : ℕ
-  b = a.0.ptr.0
+  b = a.0.ref_ptr.0
 
   abbrev o : ℕ
-  o = a.0.ptr.1
+  o = a.0.ref_ptr.1
 
   abbrev τs : List Ty
   τs = tys ps 1
@@ -95,12 +96,13 @@ module _ (ms : List Mark) (ps : List Param) (φ : callee.Clause [] (fs ms) ps u8
     E = (ty_int w8, l₀) ∷ (reference, l₁) ∷ placed τs bs E₁
 
     at_row : Stand E (no_local 𝓤 H) 2 τs bs
-    at_row = shift _ _ (no_local 𝓤 H) 1 τs bs (shift _ _ (no_local 𝓤 H) 0 τs bs (stands τs bs E₁ (no_local 𝓤 H)))
+    at_row = shift (ty_int w8, l₀) ((reference, l₁) ∷ placed τs bs E₁) (no_local 𝓤 H) 1 τs bs (shift (reference, l₁) (placed τs bs E₁) (no_local 𝓤 H) 0 τs bs (stands τs bs E₁ (no_local 𝓤 H)))
 
     at_refs : Stand E (no_local 𝓤 H) (the_refs ms τs) ρs cs
-    at_refs = shift _ _ (no_local 𝓤 H) _ ρs cs (shift _ _ (no_local 𝓤 H) _ ρs cs (stand_after τs bs E₁ (no_local 𝓤 H) 0 ρs cs (stands ρs cs [] (no_local 𝓤 H))))
+    at_refs = shift (ty_int w8, l₀) ((reference, l₁) ∷ placed τs bs E₁) (no_local 𝓤 H) (suc (after τs 0)) ρs cs (shift (reference, l₁) (placed τs bs E₁) (no_local 𝓤 H) (after τs 0) ρs cs
+        (stand_after τs bs E₁ (no_local 𝓤 H) 0 ρs cs (stands ρs cs [] (no_local 𝓤 H))))
 
-    runs_on : Sq 𝓛 (‵ (fobs a.0.name ((T.the_row).coded.code h)) ∷ ‵ (fbor κs.0 (Body (mem T.the_row) b o a.0.name)) ∷ ‵ (flft κs.0 qs.0)
+    runs_on : Sq 𝓛 (‵ (fobs a.0.ghost_name ((T.the_row).coded.code h)) ∷ ‵ (fbor κs.0 (Body (mem T.the_row) b o a.0.ghost_name)) ∷ ‵ (flft κs.0 qs.0)
         ∷ raw (toks 𝓛 (lifetimes ps) κs.1 qs.1) ∷ ‵ (Owned (suc (lifetimes ps)) κs ps 1 (its ps) a.1) ∷ rooms ρs cs
         ∷ ‵ (fat full_share reference l₁ 0 (vptr b o)) ∷ row-cells τs vs bs ∷ ‵ (fdies reference l₁) ∷ ‵ (froom (ty_int w8) l₀ 0) ∷ ‵ (fdies (ty_int w8) l₀) ∷ [])
         (runs C Λ E (passed_on ms τs (suc (lifetimes ps)) f).body (at_ret E (Post ps u8 𝓤 ψ 𝓛 κs qs a)))
@@ -136,7 +138,7 @@ module _ (ms : List Mark) (ps : List Param) (φ : callee.Clause [] (fs ms) ps u8
 
 pub passes_on : {M : Type 1} {𝓤 : Ura M} (𝓛 : Logic 𝓤) (𝓜 : Model 𝓤 𝓛.H) (𝓡 : Running 𝓤 𝓛.H 𝓜) (γ : Binds) (ms : List Mark) (ps : List Param)
     (φ : callee.Clause [] (fs ms) ps u8) (ψ : Clause ps u8) → Tells ms ps φ ψ
-    → (self f : Name) (r : Routine)
+    → (self f : Callee) (r : Routine)
     → γ f ≡ r
     → Triple 𝓤 (𝓡.run r) (callee.Known [] (fs ms) ps u8 𝓤 φ 𝓛)
     → Closed 𝓤 𝓛.H (tables 𝓤 𝓛.H 𝓜 𝓡 γ).C (tables 𝓤 𝓛.H 𝓜 𝓡 γ).Λ self (passed_on ms (tys ps 1) (suc (lifetimes ps)) f)

@@ -8,7 +8,7 @@ use mir.Syntax.{Fn}
 use mir.Val.{Val}
 use base.Fml.{Share}
 use prog.Model.{Model}
-use prog.Routine.{Name, Routine, Env}
+use prog.Routine.{Callee, Routine, Env}
 use prog.Wp.{Calls, Loops, WpFn, Closed}
 use types.Logic.{Logic}
 use contract.Running.{Running, tables, tables_of}
@@ -30,7 +30,7 @@ use Rattle.state.proofs.Unit.TheLaws as T'
 use Rattle.host.proofs.Lent.{val_t}
 
 pub thin : {M : Type 1} {𝓤 : Ura M} (𝓛 : Logic 𝓤) (𝓜 : Model 𝓤 𝓛.H) (𝓡 : Running 𝓤 𝓛.H 𝓜) (γ : Env)
-    (T : Ended) (hs : Stays T.signature.params T.kept) (c : Clauses 𝓤 T) (function : Fn) (self callee : Name) (r : Routine) (known : Contract 𝓤)
+    (T : Ended) (hs : Stays T.signature.params T.kept) (c : Clauses 𝓤 T) (function : Fn) (self callee : Callee) (r : Routine) (known : Contract 𝓤)
     → γ callee ≡ r
     → Triple 𝓤 (𝓡.run r) known
     → AllGo 𝓛 T.signature.lifetimes T.signature.params T.kept hs

@@ -1,6 +1,8 @@
 // The unit's state lent by the host (document 01: "The host owns the unit's state and lends it for each event; the event updates it and touches nothing
 // else"). Eight functions are exported to C and Rust. Each lends the arrays of the unit on, where they lie, to the function that does the work; a new core is
 // stored only if the number is 0.
+#![tactic(auto)]
+
 ghost use Rattle.rules.specs.Events.{set_bucket, assign_bucket, set_week, set_windows};
 ghost use Rattle.rules.specs.Week.{first_windows};
 ghost use Rattle.rules.specs.Loading.{loading};

@@ -1,6 +1,8 @@
 // The eight inputs' stored numbers (document 01, "Monitors"): fresh, which are qualified, one of them altered by a measurement, a lock alarm or a Hit, and
 // some of them put at their bucket's size by a call (document 02, #104).
 // Each number has a row of eight, input 1 first. A function is lent the rows that it needs, and its contract holds whatever the others are.
+#![tactic(auto)]
+
 ghost use Rattle.std.specs.Prelude.{◌≡◌, ◌-◌, ◌&&◌, nat_abs, length, replicate};
 ghost use Rattle.std.proofs.Math.ListN as ListN;
 ghost use Rattle.rules.specs.Words.{if◌then◌else◌, is_input};

@@ -15,7 +15,7 @@ use types.Logic.{Logic}
 use types.Kit.{Item, ‵, raw, ◌⊛◌, mean, ◌$◌, ◌∵◌, !, qed, move, keep, use1, use2, split, join, frame, done}
 use types.Run.{Walks, stop, fld}
 use denote.Steps.{nothing}
-use Rattle.lend.proofs.Loan.{Stretch, Elements, ty, val, up, cell}
+use Rattle.lend.proofs.Loan.{Stretch, Elements, ty, val, cell}
 
 -- the fields of a struct in order: one that is left where it is, an array, a struct with its own fields
 pub data Layout : Type 2 where
@@ -69,7 +69,7 @@ Kept (inner ν x y) = Kept x × Kept y
 abbrev pub vals : (y : Layout) (ss : List Stretch) → Kept y → Contents (arrays y ss) → Vals
 vals end ss ks ls = vnil
 vals (beside τ y) ss ks ls = vcons ks.0 (vals y ss ks.1 ls)
-vals (array s y) ss ks ls = vcons (val s (up ls.0)) (vals y ss ks ls.1)
+vals (array s y) ss ks ls = vcons (val s ls.0) (vals y ss ks ls.1)
 vals (inner ν x y) ss ks ls = vcons (vstruct (vals x (arrays y ss) ks.0 ls)) (vals y ss ks.1 (after x (arrays y ss) ls))
 
 module _ {M : Type 1} {𝓤 : Ura M} (𝓛 : Logic 𝓤) (q : Share) (b : ℕ) where

@@ -3,7 +3,7 @@
 use mathlib.Core.Path.{◌≡◌, refl, sym}
 use mathlib.Core.Bool.{Bool, true}
 use Prim.Native.Nat.{ℕ}
-use mathlib.Core.List.{[], ◌∷◌, List, ◌++◌, map, map-id}
+use mathlib.Core.List.{[], ◌∷◌, List, ◌++◌}
 use seplogic.Ra.Ura.{Ura}
 use mir.Syntax.{named, Lifetime, Mutability, Ty, ty_array, ty_ref, imm, mut, wrote}
 use mir.Val.{Val, vptr}
@@ -50,17 +50,13 @@ ty s = ty_array (lone s.element.row.mir) s.count
 abbrev pub val : (s : Stretch) → Elements s → Val
 val s l = (LL.array_laws s.element s.laws s.count).val l
 
--- a struct's value has the list of a field through `map` of the identity
-abbrev pub up : {X : Type 0} → List X → List X
-up l = map (λ v. v) l
-
 -- what whoever holds the struct knows of the list
 abbrev pub Sound : (s : Stretch) → Elements s → Type 0
-Sound s l = Is (Row s) (up l) (val s (up l) ∷ [])
+Sound s l = Is (Row s) l (val s l ∷ [])
 
 -- the field's cell
 abbrev pub cell : Share → (s : Stretch) → ℕ → ℕ → Elements s → Fml
-cell q s b o l = fat q (ty s) b o (val s (up l))
+cell q s b o l = fat q (ty s) b o (val s l)
 
 -- how it is lent
 pub data Mode : Type 0 where
@@ -162,16 +158,16 @@ whole_fits shared = tt
 -- the lender's part
 abbrev pub lender : (m : Mode) → Share → Lft → (s : Stretch) → Elements s → ℕ → ℕ → Ghost m → Fml
 lender mutable q κ s l b o δ = flent κ (Body (mem (Row s)) b o δ)
-lender shared q κ s l b o δ = flent κ (part_at (Row s) q (up l) b o)
+lender shared q κ s l b o δ = flent κ (part_at (Row s) q l b o)
 
 -- the reference to the list l at (b, o)
 abbrev pub to : (m : Mode) (s : Stretch) → ℕ → ℕ → Ghost m → Elements s → Points m (Elements s)
-to mutable s b o δ l = record { ref_ptr = (b, o); ghost_name = δ; now = up l }
-to shared s b o δ l = record { ref_ptr = (b, o); now = up l }
+to mutable s b o δ l = record { ref_ptr = (b, o); ghost_name = δ; now = l }
+to shared s b o δ l = record { ref_ptr = (b, o); now = l }
 
 pub to_now : (m : Mode) (s : Stretch) (b o : ℕ) (δ : Ghost m) (l : Elements s) → now m (to m s b o δ l) ≡ l
-to_now mutable s b o δ l = map-id l
-to_now shared s b o δ l = map-id l
+to_now mutable s b o δ l = refl
+to_now shared s b o δ l = refl
 
 -- what may have come of the list: of a `&mut` any other, of a `&` nothing; and the list after it
 abbrev pub Change : Mode → Stretch → Type 0
@@ -190,7 +186,7 @@ pub seen_settled : (m : Mode) (κ : Lft) (s : Stretch) (b o : ℕ) (δ : Ghost m
     → seen m κ (Row s) (see (exits_as m κ (Row s) true) (to m s b o δ l) w)
     ≡ settled m s l (change m s (to m s b o δ l) (last m κ (Row s) (to m s b o δ l) w))
 seen_settled mutable κ s b o δ l w = refl
-seen_settled shared κ s b o δ l w = map-id l
+seen_settled shared κ s b o δ l w = refl
 
 abbrev pub Shared : Mode → Type 0
 Shared mutable = ⊥
@@ -207,12 +203,12 @@ shared_fits shared is q = tt
 module _ {M : Type 1} {𝓤 : Ura M} (𝓛 : Logic 𝓤) (q : Share) (s : Stretch) (l : Elements s) (b o : ℕ) where
   open 𝓛 use {H}
 
-  lies_in : Sound s l → ent 𝓤 (H.at q (ty s) b o (val s (up l))) (sem 𝓛 (part_at (Row s) q (up l) b o))
+  lies_in : Sound s l → ent 𝓤 (H.at q (ty s) b o (val s l)) (sem 𝓛 (part_at (Row s) q l b o))
   unfolding part_of
   lies_in g =
-      qed 𝓛 (‵ (cell q s b o l) ∷ []) ∵ use1 𝓛 (‵ (cell_at q (Row s).mir (val s (up l) ∷ []) b o)) (𝓛.laws.at_raw q (ty s) b o (val s (up l))) $
-      owned ! (Row s) (Is (Row s)) (Array-Makes 𝓛 s.element.row (s.plain 𝓛) s.count) (up l) _ g $ move ! (1 ∷ 0 ∷ []) $ fjoin ! $
-      fpack ! (List Val) (λ us. fsep (cell_at q (Row s).mir us b o) ((Row s).own_val (up l) us)) (val s (up l) ∷ []) $ done !
+      qed 𝓛 (‵ (cell q s b o l) ∷ []) ∵ use1 𝓛 (‵ (cell_at q (Row s).mir (val s l ∷ []) b o)) (𝓛.laws.at_raw q (ty s) b o (val s l)) $
+      owned ! (Row s) (Is (Row s)) (Array-Makes 𝓛 s.element.row (s.plain 𝓛) s.count) l _ g $ move ! (1 ∷ 0 ∷ []) $ fjoin ! $
+      fpack ! (List Val) (λ us. fsep (cell_at q (Row s).mir us b o) ((Row s).own_val l us)) (val s l ∷ []) $ done !
 
   lies_out : ent 𝓤 (sem 𝓛 (part_at (Row s) q l b o)) (mean 𝓛 (given (Is (Row s) l (val s l ∷ [])) (‵ (fat q (ty s) b o (val s l)))))
   unfolding part_of
@@ -232,20 +228,20 @@ module _ {M : Type 1} {𝓤 : Ura M} {𝓛 : Logic 𝓤} {K : Type 0} {Γ : List
       → Seq K 𝓛 (‵ (cell q s b o l) ∷ Γ) G
   lends t z mutable q fits s l b o g next =
       rewrite t 0 (λ (p : Share). ‵ (cell p s b o l)) fits refl $
-      use1 𝓛 (‵ ((mem (Row s)).own_at (up l) b o)) (lies_in 𝓛 full_share s l b o g) $ lft_new t z (λ ν. move t (1 ∷ []) $
+      use1 𝓛 (‵ ((mem (Row s)).own_at l b o)) (lies_in 𝓛 full_share s l b o g) $ lft_new t z (λ ν. move t (1 ∷ []) $
       use1 𝓛 (later (some (λ (δ : GName). ‵ (owns_as mutable (ν ∷ []) (Row s) (to mutable s b o δ l) (vptr b o ∷ [])) ⊛ ‵ (lender mutable q (ν ∷ []) s l b o δ))))
-      (lends_ref 𝓛 (Row s) (named 0) (ν ∷ []) (up l) b o) $ await t z $ pick t (λ δ. split t $ move t (2 ∷ []) $ next ν δ))
+      (lends_ref 𝓛 (Row s) (named 0) (ν ∷ []) l b o) $ await t z $ pick t (λ δ. split t $ move t (2 ∷ []) $ next ν δ))
   lends t z shared q fits s l b o g next =
-      use1 𝓛 (‵ (part_at (Row s) q (up l) b o)) (lies_in 𝓛 q s l b o g) $ lft_new t z (λ ν. move t (1 ∷ []) $
+      use1 𝓛 (‵ (part_at (Row s) q l b o)) (lies_in 𝓛 q s l b o g) $ lft_new t z (λ ν. move t (1 ∷ []) $
       use1 𝓛 (later (‵ (owns_as shared (ν ∷ []) (Row s) (to shared s b o tt l) (vptr b o ∷ [])) ⊛ ‵ (lender shared q (ν ∷ []) s l b o tt)))
-      (lends_free 𝓛 (Row s) (named 0) (ν ∷ []) q (up l) b o ((Array-Copied 𝓛 s.element.row (s.copied 𝓛) s.alone s.count).lends q (up l) b o)) $
+      (lends_free 𝓛 (Row s) (named 0) (ν ∷ []) q l b o ((Array-Copied 𝓛 s.element.row (s.copied 𝓛) s.alone s.count).lends q l b o)) $
       await t z $ split t $ move t (2 ∷ []) $ next ν tt)
 
   -- the part that lies there is the cell again
   found_again : K → {G : Goal 𝓤 H} (q : Share) (s : Stretch) (l : Elements s) (b o : ℕ)
-      → (Sound s l → Seq K 𝓛 (‵ (cell q s b o l) ∷ Γ) G) → Seq K 𝓛 (‵ (part_at (Row s) q (up l) b o) ∷ Γ) G
+      → (Sound s l → Seq K 𝓛 (‵ (cell q s b o l) ∷ Γ) G) → Seq K 𝓛 (‵ (part_at (Row s) q l b o) ∷ Γ) G
   found_again t q s l b o next =
-      use1 𝓛 (given (Sound s l) (‵ (cell q s b o l))) (lies_out 𝓛 q s (up l) b o) $ learn t next
+      use1 𝓛 (given (Sound s l) (‵ (cell q s b o l))) (lies_out 𝓛 q s l b o) $ learn t next
 
   -- the lifetime is ended, and the cell comes back at the last list
   pub backs : K → {G : Goal 𝓤 H} → Soaks G → (m : Mode) (q : Share) → Fits m q → (s : Stretch) (l : Elements s) (b o ν : ℕ) (δ : Ghost m)
@@ -255,7 +251,6 @@ module _ {M : Type 1} {𝓤 : Ura M} {𝓛 : Logic 𝓤} {K : Type 0} {Γ : List
   backs t z mutable q fits s l b o ν δ w next =
       lft_end t z $ move t (2 ∷ []) $ fsplit t $ move t (2 ∷ 3 ∷ 0 ∷ []) $
       use3 𝓛 (later (‵ ((mem (Row s)).own_at w b o))) (ref_back 𝓛 (Row s) (ν ∷ []) δ w b o) $ await t z $ move t (1 ∷ []) $ drop t $
-      rewrite t 0 (λ (ys : Elements s). ‵ (part_at (Row s) full_share ys b o)) (sym (map-id w)) refl $
       found_again t full_share s w b o (λ g. rewrite t 0 (λ (p : Share). ‵ (cell p s b o w)) (sym fits) refl $ next g)
   backs t z shared q fits s l b o ν δ w next =
       lft_end t z $ lent_back t z $ move t (1 ∷ []) $ drop t $ found_again t q s l b o next

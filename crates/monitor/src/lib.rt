@@ -1,5 +1,7 @@
 // Tick steps 1 and 2 of the eight inputs (document 01, "Monitors (tick steps 1, 2)"): bucket, activity alarm, the lock alarm's remainder, soak.
 // Each number's row of eight is computed as a row, by a function of one input's numbers, those of its bucket among them (document 02, #104).
+#![tactic(auto)]
+
 ghost use Rattle.std.specs.Prelude.{◌≡◌, ◌+◌, ◌-◌, leb, get_or};
 ghost use Rattle.rules.specs.Monitors.{level_after, good, soak_after};
 ghost use Rattle.rules.specs.Tick as Tick;

@@ -1,15 +1,10 @@
 -- The state and its number.
 use Prim.Native.Nat.{ℕ, zero, suc, ◌<◌, min}
 use mathlib.Core.Path.{◌≡◌, refl, sym, ◌∙◌}
-use mathlib.Core.Bool.{Bool}
 use native.Mathlib.Omega.{arith}
 use lib.Dec.{eqb}
 use borrow.Author.Tests.{eq-eqb, ne_eqb, eqb-true, eqb-false}
-use Rattle.rules.specs.Pll.{Mode, mode_number, free_run, holdover, pre_locked, locked, loss_of_lock, pre_locked2, is, Loop}
-use Rattle.rules.specs.Settings.{Settings, automatic, op_mode}
-use Rattle.rules.specs.State.{State, Ready}
-use Rattle.rules.specs.Selection.{mode_after, steered}
-use Rattle.rules.specs.Run.{after_hit}
+use Rattle.rules.specs.Pll.{Mode, mode_number, free_run, holdover, pre_locked, locked, loss_of_lock, pre_locked2, is}
 use Rattle.rules.proofs.Tests.{by_test}
 use Rattle.pll.specs.Bridge.{mode_of}
 

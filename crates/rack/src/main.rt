@@ -31,7 +31,7 @@ struct Input {
 }
 
 // Reads into the buffer: what was read is its front part, and where no read failed it is all that there was, or fills the buffer.
-// Not: the length of the buffer; the first read alone.
+// Not: the length of the buffer.
 fn read_sheet<R: Read>(reader: &mut R, buffer: &mut [u8]) -> Input
     ensures within { result.length ≤ length buffer.new }
     ensures part { result.length ≡ length (take result.length buffer.new) }

@@ -1,6 +1,8 @@
 // The registers (document 01, "Registers"): their table, and what the settings say.
 // A unit keeps one byte for each register, in address order: 0x1c to 0x27, then 0x40 to 0x4e. The rules' settings are `settings_from` of these bytes.
 // The bytes of 0x26 and of the registers that are read only stay 0: what these show is kept elsewhere.
+#![tactic(auto)]
+
 ghost use Rattle.std.specs.Prelude.{◌≡◌, ◌+◌, length, get_or};
 ghost use Rattle.rules.specs.Settings as settings;
 ghost use Rattle.rules.specs.Registers as rules;

@@ -19,7 +19,7 @@ use Rattle.rules.specs.Inputs.{Inputs, input, altered}
 use Rattle.rules.specs.Selection.{Choice, available, candidate, settled, wait_limit, reselected, chosen, mode_after, steered}
 use Rattle.rules.specs.Buckets.{bucket_of}
 use Rattle.rules.specs.History.{History, block_samples, ready_blocks, refilled, saturated, filling, completed, sampled, with_last, noted, recorded}
-use Rattle.rules.specs.State.{State, selected, mode, Blocked, Ready}
+use Rattle.rules.specs.State.{State, selected, Blocked, Ready}
 use Rattle.rules.specs.Tick.{watched, watched_after, loop_after, inputs_after, week_after, steps1to4, step5, ticked}
 use Rattle.rules.specs.Refusals.{refusal, accepted}
 use Rattle.rules.specs.Run.{after_measurement, after_hit, effect, next, run}

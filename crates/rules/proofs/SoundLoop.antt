@@ -12,7 +12,7 @@ use Rattle.rules.specs.Pll.{Mode, free_run, locked, mode_number, is, unlocked, L
 use Rattle.rules.specs.Settings.{Settings, automatic, op_mode, delay_ticks, reversion}
 use Rattle.rules.specs.Inputs.{Inputs, input}
 use Rattle.rules.specs.Selection.{Choice, candidate, best, settled, wait_limit, wait_after, chosen, unselected_mode, mode_after, steered}
-use Rattle.rules.specs.State.{State, selected, mode, Blocked, Ready}
+use Rattle.rules.specs.State.{State, selected, Blocked, Ready}
 use Rattle.rules.specs.Tick.{watched_after, loop_after, inputs_after}
 use Rattle.rules.specs.Registers.{slot, registers, register, largest}
 use Rattle.rules.specs.Run.{next}

@@ -1,6 +1,8 @@
 // Selection (document 01, step 4, and the busy hours of document 02, #107): the wait, and the choice of a tick. The registers, the inputs' soaks, the
 // candidates' keys and the windows are lent for reading, and the contracts hold whatever else the inputs are. The settings are `settings_from` of the
 // registers.
+#![tactic(auto)]
+
 ghost use Rattle.std.specs.Prelude.{◌≡◌, ◌-◌, ◌≤◌, eqb};
 ghost use Rattle.rules.specs.Words.{if◌then◌else◌};
 ghost use Rattle.rules.specs.Settings.{delay_ticks, reversion};

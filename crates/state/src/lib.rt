@@ -1,5 +1,7 @@
 // What a unit stores: numbers that go by value, and arrays; and a fresh unit, by value and in arrays that are lent. specs/Stored.antt says which state of the
 // rules it is.
+#![tactic(auto)]
+
 ghost use Rattle.std.specs.Prelude.{◌≡◌};
 ghost use Rattle.rules.specs.Registers as rules;
 ghost use Rattle.rules.specs.Registers.{settings_from};

@@ -1,5 +1,7 @@
 // A tick (document 01): its five steps in order, each by the function of its rule. What a tick changes in arrays lies with the caller and is changed there; the
 // numbers go by value.
+#![tactic(auto)]
+
 ghost use Rattle.std.specs.Prelude.{◌≡◌, ◌&&◌};
 ghost use Rattle.rules.specs.Words.{if◌then◌else◌, is_tracked};
 ghost use Rattle.rules.specs.Monitors.{lock_alarmed};

@@ -2,7 +2,6 @@
 use Prim.Native.Nat.{◌+◌}
 use mathlib.Core.Path.{sym, ◌∙◌}
 use native.Mathlib.Nat.{add-zero}
-use borrow.Author.Rules.{rules}
 use Rattle.rules.specs.Words.{if◌then◌else◌}
 use Rattle.rules.specs.Reading.{mask_up_to}
 use Rattle.arith.proofs.mask_of.Goals as goal

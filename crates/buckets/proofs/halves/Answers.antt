@@ -5,7 +5,6 @@ use mathlib.Core.List.{[], ◌∷◌}
 use native.Mathlib.Nat.{mod-lt}
 use native.Mathlib.Omega.{arith}
 use lib.ListN.{get_or}
-use borrow.Author.Rules.{rules}
 use Rattle.buckets.specs.Bridge.{eight, word_of}
 use Rattle.buckets.proofs.Sets.{four_at}
 use Rattle.buckets.proofs.halves.Goals as goal

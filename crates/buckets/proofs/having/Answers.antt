@@ -4,7 +4,6 @@ use mathlib.Core.Path.{◌∙◌}
 use mathlib.Core.List.{[], ◌∷◌}
 use lib.Dec.{eqb}
 use lib.ListN.{get_or}
-use borrow.Author.Rules.{rules}
 use Rattle.rules.specs.Words.{if◌then◌else◌}
 use Rattle.buckets.specs.Bridge.{eight}
 use Rattle.buckets.proofs.having.Goals as goal

@@ -1,6 +1,5 @@
 -- Each number is what its call ensures.
 use mathlib.Core.List.{[], ◌∷◌}
-use borrow.Author.Rules.{rules}
 use Rattle.buckets.proofs.of_sets.Goals as goal
 
 pub returns : goal.returns

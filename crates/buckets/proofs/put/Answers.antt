@@ -1,5 +1,4 @@
 -- Each word is what its call ensures.
-use borrow.Author.Rules.{rules}
 use Rattle.buckets.proofs.put.Goals as goal
 
 pub returns : goal.returns

@@ -1,6 +1,5 @@
 -- The last count is what `last_of` ensures, and the sum fits.
 use mathlib.Core.Path.{refl}
-use borrow.Author.Rules.{rules}
 use Rattle.buckets.specs.Bridge.{word_from}
 use Rattle.buckets.proofs.word_of.Goals as goal
 

@@ -4,7 +4,6 @@ use mathlib.Core.Bool.{false}
 use mathlib.Core.List.{[], ◌∷◌}
 use mathlib.Core.Path.{◌∙◌}
 use lib.ListN.{get_or}
-use borrow.Author.Rules.{rules}
 use Rattle.rules.specs.Monitors.{qualified}
 use Rattle.rules.specs.Reading.{mask_up_to}
 use Rattle.rules.specs.Registers.{settings_from, slot}

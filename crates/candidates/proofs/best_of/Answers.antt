@@ -2,7 +2,6 @@
 use Prim.Native.Nat.{◌%◌}
 use mathlib.Core.Path.{ap, ◌∙◌}
 use lib.ListN.{get_or}
-use borrow.Author.Rules.{rules}
 use Rattle.candidates.proofs.Keys.{least_of, best_held}
 use Rattle.candidates.proofs.best_of.Goals as goal
 

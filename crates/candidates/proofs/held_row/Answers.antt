@@ -1,6 +1,5 @@
 -- The eight keys, by what `held` ensures of each.
 use mathlib.Core.List.{[], ◌∷◌}
-use borrow.Author.Rules.{rules}
 use Rattle.candidates.proofs.held_row.Goals as goal
 
 pub returns : goal.returns

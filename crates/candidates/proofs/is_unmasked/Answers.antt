@@ -1,5 +1,4 @@
 -- An input is unmasked: its bit of the mask.
-use borrow.Author.Rules.{rules}
 use borrow.Author.Tests.{le-leb, lt-leb}
 use Rattle.rules.specs.Words.{bit}
 use Rattle.candidates.proofs.is_unmasked.Goals as goal

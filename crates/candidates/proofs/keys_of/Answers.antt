@@ -1,6 +1,5 @@
 -- The nine keys, by what `key_of` ensures of each.
 use mathlib.Core.List.{[], ◌∷◌}
-use borrow.Author.Rules.{rules}
 use Rattle.rules.specs.Registers.{settings_from, slot}
 use Rattle.rules.specs.Settings.{usable, priority}
 use Rattle.rules.specs.Words.{bit}

@@ -2,7 +2,6 @@
 use Prim.Native.Nat.{min}
 use mathlib.Core.Path.{ap, ◌∙◌}
 use lib.ListN.{get_or}
-use borrow.Author.Rules.{rules}
 use Rattle.candidates.proofs.Keys.{swapped, halves}
 use Rattle.candidates.proofs.least_of_nine.Goals as goal
 

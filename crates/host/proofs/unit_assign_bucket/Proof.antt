@@ -1,4 +1,5 @@
 -- `host::unit_assign_bucket` meets its contract: three rows, the sets and their assignment are lent.
+use mathlib.Core.Path.{refl}
 use mathlib.Core.List.{[], ◌∷◌}
 use mir.Syntax.{w8}
 use Rattle.rules.specs.Events.{assign_bucket}
@@ -17,9 +18,8 @@ use Rattle.host.proofs.unit_assign_bucket.Statement as stated
 use Rattle.host.proofs.unit_assign_bucket.Code as code
 
 pub unit_assign_bucket_spec : {M : Type 1} → stated.statement M
-unfolding code.routine
-unit_assign_bucket_spec 𝓤 𝓛 𝓜 𝓡 =
-    passes_on 𝓛 𝓜 𝓡 code.env (goes mutable ∷ goes mutable ∷ goes mutable ∷ stays ∷ stays ∷ stays ∷ goes shared ∷ goes mutable ∷ [])
+unit_assign_bucket_spec 𝓤 𝓛 𝓜 𝓡 wired =
+    passes_on 𝓛 𝓜 𝓡 𝓡.env (goes mutable ∷ goes mutable ∷ goes mutable ∷ stays ∷ stays ∷ stays ∷ goes shared ∷ goes mutable ∷ [])
     (unsigned w8 ∷ unsigned w8 ∷ [])
     (λ k ls x r zs. (s : Stored)
     → Gives (with_sets (record { sets = ls.1.1.1.0; assigned = ls.1.1.1.1.0 }) (with_rows (with_activity s.monitors ls.0 ls.1.0 ls.1.1.0) s))
@@ -27,4 +27,4 @@ unit_assign_bucket_spec 𝓤 𝓛 𝓜 𝓡 =
     (with_sets (record { sets = zs.1.1.1.0; assigned = zs.1.1.1.1.0 }) (with_rows (with_activity s.monitors zs.0 zs.1.0 zs.1.1.0) s)))
     (λ h x n h'. Leads h (given (event (assign_bucket x.0 x.1.0))) n h')
     (λ h x r zs e. e h)
-    name callee.name callee.routine code.calls-calls::assign-bucket (callee-thm.met 𝓤 𝓛 𝓜 𝓡) (code.unfolded 𝓤 𝓛.H 𝓜 𝓡)
+    name callee.name (𝓡.env callee.name) refl (callee-thm.met 𝓤 𝓛 𝓜 𝓡 (code.calls-calls::assign_bucket 𝓡.env wired)) (code.unfolded 𝓤 𝓛.H 𝓜 𝓡 wired)

@@ -2,7 +2,6 @@
 use mathlib.Core.Path.{sym}
 use native.Mathlib.Omega.{arith}
 use lib.Seq.{set_out}
-use borrow.Author.Rules.{rules}
 use Rattle.inputs.proofs.put.Goals as goal
 
 pub returns-else-k-lt8 : goal.returns-else-k-lt8

@@ -1,6 +1,5 @@
 -- The soak in the input's lane tells (`qualified_lane`); no other number is an input's.
 use borrow.Author.Tests.{le-leb, lt-leb}
-use borrow.Author.Rules.{rules}
 use Rattle.inputs.specs.Bridge.{with_soak}
 use Rattle.inputs.proofs.ByLane.{qualified_lane}
 use Rattle.inputs.proofs.qualified_at.Goals as goal

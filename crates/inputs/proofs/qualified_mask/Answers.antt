@@ -1,5 +1,4 @@
 -- The eight tests are those of the eight inputs, so the masks are the same.
-use borrow.Author.Rules.{rules}
 use Rattle.rules.specs.Monitors.{qualified}
 use Rattle.rules.specs.Reading.{mask_up_to, qualified_mask}
 use Rattle.inputs.specs.Bridge.{inputs_of}

@@ -1,7 +1,6 @@
 -- Each number is its bit's weight, of the mask as a wider number.
 use Prim.Native.Nat.{ℕ}
 use mathlib.Core.Path.{ap}
-use borrow.Author.Rules.{rules}
 use Rattle.buckets.specs.Bridge.{eight}
 use Rattle.monitor.specs.Rows.{weight}
 use Rattle.monitor.proofs.irregular_row.Goals as goal

@@ -1,5 +1,4 @@
 -- Each number is what its call ensures.
-use borrow.Author.Rules.{rules}
 use Rattle.monitor.proofs.remainder_row.Goals as goal
 
 pub returns : goal.returns

@@ -1,6 +1,5 @@
 -- `holding_after` meets its contract, by what `is_holdover` and `longer_holding` ensure.
 use Rattle.rules.specs.Tick.{holding_after}
-use borrow.Author.Rules.{rules}
 use Rattle.pll.proofs.holding_after.Goals as goal
 
 pub returns-then-is_holdover-2 : goal.returns-then-is_holdover-2

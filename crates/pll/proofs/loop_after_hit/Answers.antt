@@ -1,6 +1,5 @@
 -- `loop_after_hit` meets its contract, by what `unselected_mode` ensures.
 use Rattle.rules.specs.Selection.{unselected_loop}
-use borrow.Author.Rules.{rules}
 use Rattle.pll.proofs.loop_after_hit.Goals as goal
 
 pub returns : goal.returns

@@ -2,7 +2,6 @@
 use borrow.Author.Tests.{eq-eqb, ne_eqb}
 use Rattle.rules.specs.Pll as rules
 use Rattle.pll.specs.Bridge.{mode_of}
-use borrow.Author.Rules.{rules}
 use Rattle.pll.proofs.looped.Goals as goal
 
 pub returns-then-run-eq-LOCK_TICKS : goal.returns-then-run-eq-LOCK_TICKS

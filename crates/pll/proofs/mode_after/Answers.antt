@@ -2,7 +2,6 @@
 use borrow.Author.Tests.{eq-eqb, ne_eqb}
 use Rattle.pll.specs.Bridge.{mode_of}
 use Rattle.rules.specs.Selection.{mode_after}
-use borrow.Author.Rules.{rules}
 use Rattle.pll.proofs.mode_after.Goals as goal
 
 pub returns-then-freed : goal.returns-then-freed

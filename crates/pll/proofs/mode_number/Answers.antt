@@ -1,6 +1,5 @@
 -- `mode_number` meets its contract: the number of the state that a number stands for (`number_mode`).
 use native.Mathlib.Omega.{arith}
-use borrow.Author.Rules.{rules}
 use Rattle.pll.proofs.Modes.{number_mode}
 use Rattle.pll.proofs.mode_number.Goals as goal
 

@@ -1,6 +1,5 @@
 -- `newly_selected` meets its contract, by what `is_free_run` ensures.
 use Rattle.pll.specs.Bridge.{mode_of}
-use borrow.Author.Rules.{rules}
 use Rattle.pll.proofs.newly_selected.Goals as goal
 
 pub returns-then-is_free_run : goal.returns-then-is_free_run

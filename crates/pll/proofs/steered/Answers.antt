@@ -1,7 +1,6 @@
 -- `steered` meets its contract, by what `mode_after` ensures.
 use borrow.Author.Tests.{eq-eqb, ne_eqb}
 use Rattle.rules.specs.Selection.{steered}
-use borrow.Author.Rules.{rules}
 use Rattle.pll.proofs.steered.Goals as goal
 
 pub returns-then-next-before : goal.returns-then-next-before

@@ -1,7 +1,6 @@
 -- `unlocked` meets its contract, by what `is_locked` ensures.
 use Rattle.rules.specs.Pll as rules
 use Rattle.pll.specs.Bridge.{mode_of}
-use borrow.Author.Rules.{rules}
 use Rattle.pll.proofs.unlocked.Goals as goal
 
 pub returns-then-is_locked : goal.returns-then-is_locked

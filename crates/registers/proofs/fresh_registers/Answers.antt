@@ -1,9 +1,7 @@
 -- `fresh_registers` meets its contract. The loop's invariant: the first k bytes are those of the column Fresh.
-use Prim.Native.Nat.{◌-◌, ◌≤◌}
-use mathlib.Core.Path.{◌≡◌, refl}
+use mathlib.Core.Path.{refl}
 use native.Mathlib.Omega.{arith}
 use borrow.Author.Rules.{rules}
-use lib.ListN.{length, take}
 use Rattle.rules.specs.Registers as rules
 use Rattle.registers.specs.Bridge.{row}
 use Rattle.registers.proofs.Table.{behind, column_more, behind_more, column_all}

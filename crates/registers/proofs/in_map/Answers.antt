@@ -1,5 +1,4 @@
 -- `in_map` meets its contract, by what `place` ensures.
-use borrow.Author.Rules.{rules}
 use Rattle.rules.specs.Registers as rules
 use Rattle.registers.proofs.in_map.Goals as goal
 

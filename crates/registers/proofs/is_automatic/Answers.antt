@@ -1,5 +1,4 @@
 -- `is_automatic` meets its contract, by what `setting` ensures.
-use borrow.Author.Rules.{rules}
 use Rattle.registers.proofs.is_automatic.Goals as goal
 
 pub returns : goal.returns

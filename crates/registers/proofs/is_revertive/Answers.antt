@@ -1,5 +1,4 @@
 -- `is_revertive` meets its contract, by what `own_register` ensures.
-use borrow.Author.Rules.{rules}
 use Rattle.rules.specs.Words.{bit}
 use Rattle.rules.specs.Settings.{revertive}
 use Rattle.registers.proofs.is_revertive.Goals as goal

@@ -2,7 +2,6 @@
 use Prim.Native.Nat.{◌+◌}
 use mathlib.Core.Path.{refl}
 use native.Mathlib.Omega.{arith}
-use borrow.Author.Rules.{rules}
 use Rattle.rules.specs.Registers.{settings_from}
 use Rattle.registers.proofs.Slots.{slot_past}
 use Rattle.registers.proofs.own_register.Goals as goal

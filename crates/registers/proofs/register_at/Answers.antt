@@ -2,7 +2,6 @@
 use mathlib.Core.Path.{ap, ◌∙◌}
 use Prim.Native.Nat.{ℕ}
 use lib.ListN.{get_or}
-use borrow.Author.Rules.{rules}
 use Rattle.rules.specs.Registers as rules
 use Rattle.registers.specs.Bridge.{row}
 use Rattle.registers.proofs.Table.{any_row}

@@ -1,7 +1,6 @@
 -- `row_at` meets its contract: the table is the rules' table, row by row.
 use mathlib.Core.Path.{refl, ap, sym}
 use lib.ListN.{get_or-eq_default}
-use borrow.Author.Rules.{rules}
 use Rattle.rules.specs.Registers as rules
 use Rattle.registers.specs.Bridge.{row}
 use Rattle.registers.proofs.Table.{row_here}

@@ -1,6 +1,5 @@
 -- `setting` meets its contract, by what `slot` ensures: no slot is past the one behind the last register.
 use native.Mathlib.Omega.{arith}
-use borrow.Author.Rules.{rules}
 use Rattle.rules.specs.Registers as rules
 use Rattle.registers.proofs.Slots.{slot_le}
 use Rattle.registers.proofs.setting.Goals as goal

@@ -1,6 +1,5 @@
 -- `slot` meets its contract: each run of addresses starts where the rule has it.
 use native.Mathlib.Omega.{arith}
-use borrow.Author.Rules.{rules}
 use borrow.Author.Tests.{le-leb, lt-leb}
 use Rattle.rules.specs.Registers as rules
 use Rattle.registers.proofs.slot.Goals as goal

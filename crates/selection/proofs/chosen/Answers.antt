@@ -1,6 +1,5 @@
 -- The choice of a tick: automatic or manual.
 use mathlib.Core.Path.{ap, ◌∙◌}
-use borrow.Author.Rules.{rules}
 use Rattle.rules.specs.Registers.{settings_from}
 use Rattle.rules.specs.Week.{busy}
 use Rattle.week.specs.Bridge.{windows_of}

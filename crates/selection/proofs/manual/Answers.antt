@@ -1,5 +1,4 @@
 -- The manual choice: Op_Mode if it is qualified.
-use borrow.Author.Rules.{rules}
 use Rattle.rules.specs.Selection.{manual}
 use Rattle.selection.proofs.manual.Goals as goal
 

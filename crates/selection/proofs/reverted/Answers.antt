@@ -8,7 +8,6 @@ use borrow.Author.Tests.{leb-false, lt-leb}
 use Rattle.rules.specs.Settings.{delay_ticks}
 use Rattle.rules.specs.Selection.{Choice, wait_after, switches, reverted}
 use Rattle.rules.specs.Week.{busy}
-use Rattle.rules.proofs.Tests.{not-true}
 use Rattle.rules.proofs.BusyHours.{not_over}
 use Rattle.week.specs.Bridge.{windows_of}
 use Rattle.selection.specs.Bridge.{choice_of}

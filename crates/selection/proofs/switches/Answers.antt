@@ -1,7 +1,6 @@
 -- The wait is over: the same test.
 use mathlib.Core.Path.{ap}
 use lib.Dec.{leb}
-use borrow.Author.Rules.{rules}
 use Rattle.rules.specs.Selection.{switches}
 use Rattle.selection.proofs.switches.Goals as goal
 

@@ -1,6 +1,5 @@
 -- The table of waits: each of its 256 numbers is the rule's, which antt computes at that delay.
 use native.Mathlib.Omega.{arith}
-use borrow.Author.Rules.{rules}
 use Rattle.rules.specs.Settings.{delay_ticks}
 use Rattle.waits.proofs.Table.{at}
 use Rattle.waits.proofs.delay_ticks.Goals as goal

@@ -1,5 +1,4 @@
 -- `limits_refused` meets its contract: a write of one limit leaves the other as it is.
-use borrow.Author.Rules.{rules}
 use borrow.Author.Tests.{ne_eqb}
 use Rattle.rules.specs.Registers as rules
 use Rattle.rules.specs.Refusals.{limits_apart, limits_refused}

@@ -1,5 +1,4 @@
 -- `write_refusal` meets its contract: each test is the rule's, by what the functions that it calls ensure.
-use borrow.Author.Rules.{rules}
 use Rattle.rules.specs.Registers.{read_only, largest}
 use Rattle.registers.specs.Bridge.{row}
 use Rattle.rules.specs.Refusals.{write_refusal}

@@ -1,6 +1,5 @@
 -- `written` meets its contract: a slot belongs to one address alone (`write_in`, `write_out`).
 use native.Mathlib.Omega.{arith}
-use borrow.Author.Rules.{rules}
 use Rattle.writes.proofs.Writes.{write_in, write_out}
 use Rattle.writes.proofs.written.Goals as goal
 
