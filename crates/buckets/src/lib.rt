@@ -3,8 +3,7 @@
 // decay.
 #![tactic(auto)]
 
-ghost use Rattle.std.specs.Prelude.{◌≡◌, [], ◌∷◌, ◌+◌, ◌-◌, ◌/◌, ◌%◌, ◌^◌, ◌≤◌, min, eqb, get_or};
-ghost use Rattle.rules.specs.Words.{if◌then◌else◌};
+ghost use Rattle.std.specs.Prelude.{◌≡◌, [], ◌∷◌, ◌+◌, ◌-◌, ◌/◌, ◌%◌, ◌^◌, ◌≤◌, min, eqb, get_or, if◌then◌else◌};
 ghost use Rattle.rules.specs.Buckets as rules;
 ghost use Rattle.rules.specs.Buckets.{fresh_buckets};
 ghost use Rattle.rules.specs.Refusals.{set_refusal, assign_refusal};

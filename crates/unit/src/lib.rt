@@ -3,10 +3,9 @@
 // Each contract is an equation with a rule of crates/rules/specs through crates/state/specs/Stored.antt; the rule is named above the function.
 #![tactic(auto)]
 
-ghost use Rattle.std.specs.Prelude.{◌≡◌, true, ◌*◌, leb, eqb, nat_abs};
+ghost use Rattle.std.specs.Prelude.{◌≡◌, true, ◌*◌, leb, eqb, nat_abs, if◌then◌else◌};
 ghost use Rattle.rules.specs.Registers.{in_map, written, settings_from};
 ghost use Rattle.rules.specs.Settings.{delay, delay_ticks};
-ghost use Rattle.rules.specs.Words.{if◌then◌else◌};
 ghost use Rattle.rules.specs.Events as events;
 ghost use Rattle.rules.specs.Events.{half_ppm, sample_limit};
 ghost use Rattle.rules.specs.Run.{after_write};
