@@ -1,7 +1,7 @@
 -- Laws of choices.
+use Rattle.std.specs.Prelude.{if◌then◌else◌}
 use mathlib.Core.Path.{◌≡◌, refl, ap, ◌∙◌}
 use mathlib.Core.Bool.{Bool, true, false}
-use Rattle.rules.specs.Words.{if◌then◌else◌}
 
 -- what is made of a choice is a choice of what is made
 pub if_map : {A B : Type 0} (f : A → B) (t : Bool) (x y : A) → f (if t then x else y) ≡ (if t then f x else f y)

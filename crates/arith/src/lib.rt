@@ -1,8 +1,8 @@
 // Small functions on numbers that several crates use. None has an early return, so that eight lanes can be computed side by side.
 #![tactic(auto)]
 
-ghost use Rattle.std.specs.Prelude.{◌≡◌, ◌+◌, ◌-◌, ◌≤◌, ◌<◌, min, max, false, ◌&&◌, ◌||◌, [], ◌∷◌, get_or};
-ghost use Rattle.rules.specs.Words.{if◌then◌else◌, is_input, is_tracked, is_counted};
+ghost use Rattle.std.specs.Prelude.{◌≡◌, ◌+◌, ◌-◌, ◌≤◌, ◌<◌, min, max, false, ◌&&◌, ◌||◌, [], ◌∷◌, get_or, if◌then◌else◌};
+ghost use Rattle.rules.specs.Words.{is_input, is_tracked, is_counted};
 ghost use Rattle.rules.specs.Reading.{mask_up_to};
 
 // The rules' choice by a test.

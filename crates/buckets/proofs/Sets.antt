@@ -1,4 +1,5 @@
 -- One place of four or of eight replaced: by a choice at each place, and by the rules' `set`. So the stored sets and set numbers after a call are the rules'.
+use Rattle.std.specs.Prelude.{if◌then◌else◌}
 use Prim.Native.Nat.{ℕ, zero, suc, ◌+◌, ◌-◌, ◌*◌, ◌%◌, ◌^◌, ◌≤◌, ◌<◌, min}
 use mathlib.Core.Path.{◌≡◌, refl, sym, ap, ◌∙◌}
 use mathlib.Core.Bool.{Bool, true, false, false≢true}
@@ -6,7 +7,7 @@ use native.Mathlib.Omega.{arith}
 use native.Mathlib.Nat.{mod-lt}
 use lib.Dec.{eqb}
 use lib.ListN.{get_or, set}
-use Rattle.rules.specs.Words.{if◌then◌else◌, is_input}
+use Rattle.rules.specs.Words.{is_input}
 use Rattle.rules.specs.Buckets.{bucket_from, start_bucket, with_set, with_assigned}
 use Rattle.rules.proofs.Tests.{high}
 use Rattle.arith.proofs.Laws.{if_map}

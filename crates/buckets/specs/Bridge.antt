@@ -1,6 +1,5 @@
 -- From the stored sets and set numbers to the rules'.
-use Rattle.std.specs.Prelude.{ℕ, ◌+◌, ◌-◌, ◌*◌, ◌/◌, ◌%◌, ◌^◌, min, List, [], ◌∷◌, eqb, get_or}
-use Rattle.rules.specs.Words.{if◌then◌else◌}
+use Rattle.std.specs.Prelude.{ℕ, ◌+◌, ◌-◌, ◌*◌, ◌/◌, ◌%◌, ◌^◌, min, List, [], ◌∷◌, eqb, get_or, if◌then◌else◌}
 use Rattle.rules.specs.Monitors.{Bucket}
 use Rattle.rules.specs.Buckets as rules
 use Rattle.buckets.specs.declared.Buckets.{Buckets}

@@ -3,8 +3,7 @@
 // decay.
 #![tactic(auto)]
 
-ghost use Rattle.std.specs.Prelude.{◌≡◌, [], ◌∷◌, ◌+◌, ◌-◌, ◌/◌, ◌%◌, ◌^◌, ◌≤◌, min, eqb, get_or};
-ghost use Rattle.rules.specs.Words.{if◌then◌else◌};
+ghost use Rattle.std.specs.Prelude.{◌≡◌, [], ◌∷◌, ◌+◌, ◌-◌, ◌/◌, ◌%◌, ◌^◌, ◌≤◌, min, eqb, get_or, if◌then◌else◌};
 ghost use Rattle.rules.specs.Buckets as rules;
 ghost use Rattle.rules.specs.Buckets.{fresh_buckets};
 ghost use Rattle.rules.specs.Refusals.{set_refusal, assign_refusal};
@@ -245,7 +244,7 @@ fn put(sets: [u32; 4], n: u8, w: u32) -> [u32; 4]
     ]
 }
 
-// The words with that of set n anew: the rule `with_set`, of a set and numbers within the bounds (`set-anew` in proofs/Sets).
+// The words with that of set n anew: the rule `with_set`, of a set and numbers within the bounds (`set_anew` in proofs/Sets).
 // Not: the set beside it anew; a decay of d ticks.
 pub fn with_set(b: Buckets, n: u8, size: u8, high: u8, low: u8, d: u8) -> Buckets
     ensures { result ≡ with_word n (word_from size high low d) b }

@@ -1,9 +1,9 @@
 -- The inputs that a call concerns: by the code a row with 1 for each and 0 for the others, by the rules a test.
+use Rattle.std.specs.Prelude.{if◌then◌else◌}
 use Prim.Native.Nat.{ℕ, ◌-◌}
 use mathlib.Core.Path.{◌≡◌, refl}
 use mathlib.Core.Bool.{Bool, true, false}
 use lib.ListN.{get_or}
-use Rattle.rules.specs.Words.{if◌then◌else◌}
 use Rattle.rules.specs.Monitors.{at_size}
 use Rattle.rules.specs.Inputs.{each_from}
 use Rattle.rules.specs.Buckets.{put_at_size}

@@ -2,6 +2,8 @@
 // events of a run sheet (document 02, #104: setting and assigning a set of bucket numbers; #107: setting the place in the week, and the windows). A refusal
 // leaves every stored number as it was.
 // Each contract is an equation with the rule `outcome` through crates/state/specs/Stored.antt.
+#![tactic(auto)]
+
 ghost use Rattle.rules.specs.Events.{set_bucket, assign_bucket, set_week, set_windows};
 ghost use Rattle.rules.specs.Sheet.{fields};
 ghost use Rattle.rules.specs.Week.{first_windows};

@@ -1,4 +1,5 @@
 -- The best candidate is the number of the least key.
+use Rattle.std.specs.Prelude.{if◌then◌else◌}
 use Prim.Native.Nat.{ℕ, zero, suc, ◌+◌, ◌*◌, ◌%◌, ◌≤◌, ◌<◌, min}
 use mathlib.Core.Path.{◌≡◌, refl, ap, sym, ◌∙◌}
 use mathlib.Core.List.{List}
@@ -8,7 +9,7 @@ use native.Mathlib.Omega.{arith}
 use lib.Dec.{eqb, ltb}
 use lib.ListN.{get_or}
 use borrow.Author.Tests.{eqb-true, ltb-true, ltb-false}
-use Rattle.rules.specs.Words.{if◌then◌else◌, is_input}
+use Rattle.rules.specs.Words.{is_input}
 use Rattle.rules.specs.Monitors.{qualified, full_soak}
 use Rattle.rules.specs.Settings.{Settings, priority, usable, ahead}
 use Rattle.rules.specs.Inputs.{Inputs, input}

@@ -1,11 +1,11 @@
 -- The ones of a mask.
+use Rattle.std.specs.Prelude.{if◌then◌else◌}
 use Prim.Native.Nat.{ℕ, zero, suc, ◌+◌, ◌^◌, ◌<◌}
 use mathlib.Core.Path.{◌≡◌, refl, ap, sym, ◌∙◌}
 use mathlib.Core.Bool.{Bool, true, false}
 use native.Mathlib.Nat.{zero-add, one-mul, pow-suc}
 use native.Mathlib.Omega.{arith}
 use lib.Count.{ones, ones_cat}
-use Rattle.rules.specs.Words.{if◌then◌else◌}
 use Rattle.rules.specs.Reading.{mask_up_to, count_up_to}
 
 -- they are how many tests pass

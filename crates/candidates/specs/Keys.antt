@@ -1,6 +1,5 @@
 -- The key of a candidate: its priority, then its number. The best candidate is the number of the least key.
-use Rattle.std.specs.Prelude.{ℕ, zero, suc, ◌+◌, ◌*◌, min, List, [], ◌∷◌}
-use Rattle.rules.specs.Words.{if◌then◌else◌}
+use Rattle.std.specs.Prelude.{ℕ, zero, suc, ◌+◌, ◌*◌, min, List, [], ◌∷◌, if◌then◌else◌}
 use Rattle.rules.specs.Settings.{Settings, priority, usable}
 use Rattle.rules.specs.Inputs.{Inputs}
 use Rattle.rules.specs.Selection.{candidate}

@@ -3,8 +3,8 @@
 // registers. What follows from them alone, the keys, is made after a write and handed to the ticks.
 #![tactic(auto)]
 
-ghost use Rattle.std.specs.Prelude.{◌≡◌, ◌+◌, ◌*◌, ◌%◌, min, ◌&&◌, eqb, get_or};
-ghost use Rattle.rules.specs.Words.{if◌then◌else◌, bit_of, is_input};
+ghost use Rattle.std.specs.Prelude.{◌≡◌, ◌+◌, ◌*◌, ◌%◌, min, ◌&&◌, eqb, get_or, if◌then◌else◌};
+ghost use Rattle.rules.specs.Words.{bit_of, is_input};
 ghost use Rattle.rules.specs.Monitors.{full_soak};
 ghost use Rattle.rules.specs.Settings.{Settings};
 ghost use Rattle.rules.specs.Selection.{available, candidate, best};

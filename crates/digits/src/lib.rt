@@ -1,6 +1,8 @@
 // Numbers as text: one way to write a number in digits (document 01, "Run sheet and rack program").
 // Each text is put into the lent bytes from byte `at` on, as much of it as there is room for, and the byte after it is returned (`Puts`).
 // Rules are those of crates/rules/specs/Printout.antt; a function that has one names it.
+#![tactic(auto)]
+
 ghost use Rattle.std.specs.Prelude.{◌≡◌, [], ◌∷◌, ◌++◌, ◌+◌, ◌<◌, length};
 ghost use Rattle.rules.specs.Printout as rules;
 ghost use Rattle.rules.specs.Printout.{blank, decimal, hexadecimal};

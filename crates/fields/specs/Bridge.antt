@@ -1,6 +1,5 @@
 -- From the code's decoded fields to the rules'.
-use Rattle.std.specs.Prelude.{ℕ, ◌&&◌, eqb, pos}
-use Rattle.rules.specs.Words.{if◌then◌else◌}
+use Rattle.std.specs.Prelude.{ℕ, ◌&&◌, eqb, pos, if◌then◌else◌}
 use Rattle.rules.specs.Events.{old_kind, hit, write}
 use Rattle.rules.specs.Sheet as rules
 use Rattle.rules.specs.Sheet.{event, bad, signed_byte}

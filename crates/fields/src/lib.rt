@@ -1,5 +1,7 @@
 // The fields of one event of a run sheet (document 01, "Run sheet and rack program", and document 02, #106): kind, a, b and the word.
 // Each contract is an equation with a rule of crates/rules/specs/Sheet.antt through specs/Bridge.antt; the rule is named above the function.
+#![tactic(auto)]
+
 ghost use Rattle.std.specs.Prelude.{◌≡◌, pos, ◌*ℤ◌};
 ghost use Rattle.rules.specs.Events.{half_ppm};
 ghost use Rattle.rules.specs.Sheet as rules;

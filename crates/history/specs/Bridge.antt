@@ -1,6 +1,5 @@
 -- From the code's tally and sums to the rules' history.
-use Rattle.std.specs.Prelude.{ℕ, zero, suc, min, ◌≡◌, false, not, List, [], ◌∷◌, eqb, ℤ, pos, take}
-use Rattle.rules.specs.Words.{if◌then◌else◌}
+use Rattle.std.specs.Prelude.{ℕ, zero, suc, min, ◌≡◌, false, not, List, [], ◌∷◌, eqb, ℤ, pos, take, if◌then◌else◌}
 use Rattle.rules.specs.History.{History, saturated, completed}
 use Rattle.history.specs.declared.Tally.{Tally}
 use Rattle.history.specs.declared.Update.{Update}

@@ -1,4 +1,5 @@
 -- The stored numbers by lane, and the rules' list of inputs.
+use Rattle.std.specs.Prelude.{if◌then◌else◌}
 use Prim.Native.Nat.{ℕ, zero, suc, ◌-◌, ◌≤◌, ◌<◌}
 use mathlib.Core.Path.{◌≡◌, refl, ap, sym, ◌∙◌}
 use mathlib.Core.Bool.{Bool, true, false, ◌&&◌}
@@ -8,7 +9,7 @@ use lib.Dec.{eqb}
 use lib.ListN.{length, get_or, set, length-set}
 use lib.Seq.{ext_get_or, get_or-set_same, get_or-set_other}
 use borrow.Author.Tests.{eqb-true, eqb-false}
-use Rattle.rules.specs.Words.{if◌then◌else◌, is_input}
+use Rattle.rules.specs.Words.{is_input}
 use Rattle.rules.specs.Monitors.{Input, full_soak, qualified, at_size, fresh_input}
 use Rattle.rules.specs.Inputs.{input, altered}
 use Rattle.rules.proofs.Tests.{by_test, is_between}

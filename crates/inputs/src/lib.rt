@@ -3,9 +3,9 @@
 // Each number has a row of eight, input 1 first. A function is lent the rows that it needs, and its contract holds whatever the others are.
 #![tactic(auto)]
 
-ghost use Rattle.std.specs.Prelude.{◌≡◌, ◌-◌, ◌&&◌, nat_abs, length, replicate};
+ghost use Rattle.std.specs.Prelude.{◌≡◌, ◌-◌, ◌&&◌, nat_abs, length, replicate, if◌then◌else◌};
 ghost use Rattle.std.proofs.Math.ListN as ListN;
-ghost use Rattle.rules.specs.Words.{if◌then◌else◌, is_input};
+ghost use Rattle.rules.specs.Words.{is_input};
 ghost use Rattle.rules.specs.Monitors.{qualified, unsoaked, lock_alarmed, frequency_after, measured, fresh_input};
 ghost use Rattle.rules.specs.Inputs.{input, altered};
 ghost use Rattle.rules.specs.Buckets.{put_at_size};

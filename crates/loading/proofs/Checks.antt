@@ -1,4 +1,5 @@
 -- The number of a table by its three tests: its length, its bytes, its limits.
+use Rattle.std.specs.Prelude.{if◌then◌else◌}
 use Prim.Native.Nat.{ℕ}
 use mathlib.Core.Path.{◌≡◌, refl}
 use mathlib.Core.Bool.{Bool, true, false, ◌&&◌}
@@ -7,7 +8,7 @@ use native.Mathlib.Omega.{arith}
 use lib.Dec.{eqb}
 use lib.ListN.{length}
 use borrow.Author.Tests.{eq-eqb, ne_eqb}
-use Rattle.rules.specs.Words.{if◌then◌else◌, every}
+use Rattle.rules.specs.Words.{every}
 use Rattle.rules.specs.Registers.{registers, settings_from}
 use Rattle.rules.specs.Refusals.{limits_apart}
 use Rattle.rules.specs.Loading.{fits, loads, load_refusal}

@@ -1,8 +1,8 @@
 // A fresh unit of the buyer's own values (document 02, #105): which tables of bytes load, and the unit that a table makes.
 #![tactic(auto)]
 
-ghost use Rattle.std.specs.Prelude.{◌≡◌, ◌%◌, ltb, length, get_or};
-ghost use Rattle.rules.specs.Words.{if◌then◌else◌, every};
+ghost use Rattle.std.specs.Prelude.{◌≡◌, ◌%◌, ltb, length, get_or, if◌then◌else◌};
+ghost use Rattle.rules.specs.Words.{every};
 ghost use Rattle.rules.specs.Registers.{map_size, registers, reads, stored, settings_from};
 ghost use Rattle.rules.specs.Loading as rules;
 ghost use Rattle.rules.specs.Loading.{fits, load_refusal, loading};

@@ -1,6 +1,5 @@
 -- What the rows of a tick's steps 1 and 2 hold, number by number.
-use Rattle.std.specs.Prelude.{ℕ, ◌+◌, ◌*◌, ◌/◌, ◌%◌, ◌^◌, max, leb, ltb}
-use Rattle.rules.specs.Words.{if◌then◌else◌}
+use Rattle.std.specs.Prelude.{ℕ, ◌+◌, ◌*◌, ◌/◌, ◌%◌, ◌^◌, max, leb, ltb, if◌then◌else◌}
 
 -- the weight of bit k of a mask, 256 times 2^k, or 0 where it is clear
 abbrev pub weight : ℕ → ℕ → ℕ

@@ -1,6 +1,5 @@
 -- An output that pages are put into.
-use Rattle.std.specs.Prelude.{ℕ, ◌*◌, ◌/◌, List, ltb, length}
-use Rattle.rules.specs.Words.{if◌then◌else◌}
+use Rattle.std.specs.Prelude.{ℕ, ◌*◌, ◌/◌, List, ltb, length, if◌then◌else◌}
 use Rattle.rules.specs.Sheet.{over}
 use Rattle.rules.specs.Pages.{page_bytes, page_count, pages_of}
 

@@ -1,9 +1,8 @@
 // The PLL (document 01, "PLL (step 3)" and the state of "Selection (step 4)"): its state, its lock and unlock runs, and the ticks in Holdover.
 #![tactic(auto)]
 
-ghost use Rattle.std.specs.Prelude.{◌≡◌, ◌+◌, min, not, ◌&&◌, ◌||◌, eqb};
+ghost use Rattle.std.specs.Prelude.{◌≡◌, ◌+◌, min, not, ◌&&◌, ◌||◌, eqb, if◌then◌else◌};
 ghost use Rattle.rules.specs.Pll.{mode_number, free_run, holdover, pre_locked, locked, pre_locked2, is, lock_ticks, unlock_ticks, alarm_due};
-ghost use Rattle.rules.specs.Words.{if◌then◌else◌};
 ghost use Rattle.rules.specs.Pll as rules;
 ghost use Rattle.rules.specs.Selection.{unselected_mode, unselected_loop, mode_after};
 ghost use Rattle.rules.specs.Selection as selection;

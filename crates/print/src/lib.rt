@@ -1,5 +1,7 @@
 // A sheet run on the standard fresh unit and printed in one call (document 02, #101): its check, its records and their pages; and what is exported.
 // Each contract is an equation with a rule of crates/rules/specs/Pages.antt; the rule is named above the function.
+#![tactic(auto)]
+
 ghost use Rattle.std.specs.Prelude.{◌≡◌};
 ghost use Rattle.rules.specs.Pages as rules;
 ghost use Rattle.rules.specs.Pages.{print_check, Print};

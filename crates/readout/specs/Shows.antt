@@ -1,6 +1,5 @@
 -- What a read gives as one number, and what it is lent of a unit.
-use Rattle.std.specs.Prelude.{ℕ, ◌+◌, ◌*◌, ◌/◌, ◌%◌, ◌≡◌, List, ℤ}
-use Rattle.rules.specs.Words.{if◌then◌else◌}
+use Rattle.std.specs.Prelude.{ℕ, ◌+◌, ◌*◌, ◌/◌, ◌%◌, ◌≡◌, List, ℤ, if◌then◌else◌}
 use Rattle.rules.specs.History.{History, ready, value}
 use Rattle.rules.specs.Reading.{Answer, twos, read}
 use Rattle.state.specs.Stored.{Stored, meaning, with_core, with_soak, with_sums, with_registers}

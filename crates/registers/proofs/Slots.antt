@@ -1,4 +1,5 @@
 -- The slot of an address in the map belongs to that address alone. An address that is not in the map has the slot behind the last register.
+use Rattle.std.specs.Prelude.{if◌then◌else◌}
 use Prim.Native.Nat.{ℕ, ◌+◌, ◌-◌, ◌≤◌, ◌<◌}
 use mathlib.Core.Path.{◌≡◌, ap, sym, ◌∙◌}
 use mathlib.Core.List.{List}
@@ -6,7 +7,7 @@ use native.Mathlib.Omega.{arith}
 use lib.Dec.{ltb}
 use lib.ListN.{get_or}
 use borrow.Author.Tests.{lt-ltb, le-ltb, le-leb, lt-leb}
-use Rattle.rules.specs.Words.{if◌then◌else◌, between}
+use Rattle.rules.specs.Words.{between}
 use Rattle.rules.specs.Registers.{slot, settings_from}
 use Rattle.rules.proofs.Tests.{if_case, low, high}
 

@@ -1,9 +1,9 @@
 -- The PLL of two units, of which the second is Ready at least where the first is: Holdover for Free Run, and so Pre-locked 2 for Pre-locked; all else is the same.
+use Rattle.std.specs.Prelude.{if◌then◌else◌}
 use Prim.Native.Nat.{ℕ, ◌+◌, min}
 use mathlib.Core.Path.{◌≡◌, refl, ap}
 use mathlib.Core.Bool.{Bool, true, false, not, ◌&&◌, ◌||◌, true≢false, false≢true}
 use lib.Dec.{eqb}
-use Rattle.rules.specs.Words.{if◌then◌else◌}
 use Rattle.rules.specs.Pll.{Mode, free_run, holdover, pre_locked, locked, pre_locked2, mode_number, is, Loop, lock_ticks, unlock_ticks, unlocked, looped}
 use Rattle.rules.specs.Settings.{Settings, automatic, op_mode}
 use Rattle.rules.specs.Selection.{unselected_mode, mode_after, steered}

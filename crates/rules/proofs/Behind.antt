@@ -1,5 +1,6 @@
 -- The history under the old rules and under the new ones: the new one is Ready, or the history that fills has no fewer blocks than the old one, and as many open
 -- samples. Every step and command keeps this.
+use Rattle.std.specs.Prelude.{if◌then◌else◌}
 use Prim.Native.Nat.{ℕ, ◌+◌, ◌≤◌}
 use mathlib.Core.Path.{◌≡◌, refl, sym, ap, ◌∙◌}
 use mathlib.Core.Logic.{◌⊎◌, inl, inr}
@@ -10,7 +11,7 @@ use lib.Dec.{leb, eqb}
 use lib.IntN.{ℤ, ◌+ℤ◌}
 use lib.ListN.{length, take, length-take}
 use borrow.Author.Tests.{eqb-true, leb-true, le-leb}
-use Rattle.rules.specs.Words.{if◌then◌else◌, is_counted}
+use Rattle.rules.specs.Words.{is_counted}
 use Rattle.rules.specs.History.{History, block_samples, kept_blocks, ready_blocks, ready, held, refilled, with_blocks, open_emptied, saturated, filling, completed, sampled, starts_building, with_last, noted, recorded, backed_up, replaced, with_command, commanded}
 use Rattle.rules.specs.Laws.{SoundHistory}
 use Rattle.rules.specs.OldHistory.{old_blocks, old_sampled, old_noted, old_recorded, old_commanded}

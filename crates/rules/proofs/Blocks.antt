@@ -1,4 +1,5 @@
 -- A completed block: the history that fills has one more, 43 of them are in use, and Ready stands on.
+use Rattle.std.specs.Prelude.{if◌then◌else◌}
 use Prim.Native.Nat.{suc, ◌+◌, ◌≤◌, ◌<◌, min}
 use mathlib.Core.Path.{◌≡◌, refl, ap}
 use mathlib.Core.Bool.{Bool, true, false, not, ◌&&◌, true≢false}
@@ -8,7 +9,6 @@ use lib.Dec.{leb}
 use lib.IntN.{ℤ, ◌+ℤ◌}
 use lib.ListN.{length, take, length-take}
 use borrow.Author.Tests.{leb-true, le-leb, lt-leb}
-use Rattle.rules.specs.Words.{if◌then◌else◌}
 use Rattle.rules.specs.History.{History, block_samples, kept_blocks, ready_blocks, with_blocks, saturated, filling, completed, sampled}
 use Rattle.rules.specs.Laws.{SoundBuilding}
 use Rattle.rules.proofs.Tests.{if_case, and_false}

@@ -1,5 +1,6 @@
 -- Request #102 compared with the rules before it. Two units get one list: the first has the old history, the second the new one. They agree in all but the
 -- history, the ticks in Holdover, and the state, where Ready makes the difference.
+use Rattle.std.specs.Prelude.{if◌then◌else◌}
 use Prim.Native.Nat.{ℕ}
 use mathlib.Core.Path.{◌≡◌, refl, sym, ap}
 use mathlib.Core.Logic.{◌⊎◌, inr}
@@ -8,7 +9,7 @@ use mathlib.Core.List.{List, [], ◌∷◌}
 use native.Mathlib.Omega.{arith}
 use lib.Dec.{eqb}
 use lib.IntN.{ℤ}
-use Rattle.rules.specs.Words.{if◌then◌else◌, is_tracked}
+use Rattle.rules.specs.Words.{is_tracked}
 use Rattle.rules.specs.Events.{Event, Tick, tick, measurement, hit, write, set_bucket, assign_bucket, set_week, set_windows}
 use Rattle.rules.specs.Pll.{alarm_due}
 use Rattle.rules.specs.Settings.{Settings, policy}

@@ -1,4 +1,5 @@
 -- The counts of ticks: the delay of a reversion, and the hours in Holdover.
+use Rattle.std.specs.Prelude.{if◌then◌else◌}
 use Prim.Native.Nat.{ℕ, ◌+◌, ◌/◌, min}
 use mathlib.Core.Path.{◌≡◌, refl}
 use mathlib.Core.Bool.{true, ◌&&◌}
@@ -6,7 +7,7 @@ use mathlib.Core.List.{List, [], ◌∷◌}
 use native.Mathlib.Omega.{arith}
 use lib.Dec.{eqb}
 use borrow.Author.Tests.{eqb-false, ne_eqb}
-use Rattle.rules.specs.Words.{if◌then◌else◌, is_tracked}
+use Rattle.rules.specs.Words.{is_tracked}
 use Rattle.rules.specs.Events.{Event, tick, measurement, hit, write, set_bucket, assign_bucket, set_week, set_windows}
 use Rattle.rules.specs.Pll.{Mode, holdover, is, mode_number}
 use Rattle.rules.specs.Settings.{delay_ticks}

@@ -1,4 +1,5 @@
 -- Request #106: an offset and limits of which all are taken 32 times give the same alarm, and so the same state, records and check.
+use Rattle.std.specs.Prelude.{if◌then◌else◌}
 use Prim.Native.Nat.{ℕ, zero, suc, ◌+◌, ◌-◌, ◌*◌, ◌≤◌, ◌<◌}
 use mathlib.Core.Path.{◌≡◌, refl, ap, sym, ◌∙◌, subst}
 use mathlib.Core.Bool.{Bool, true, false, not}
@@ -8,7 +9,6 @@ use lib.Dec.{leb, ltb, eqb}
 use lib.IntN.{ℤ, pos, negsuc, neg_ℤ, ◌*ℤ◌, nat_abs}
 use lib.ListN.{get_or, drop}
 use borrow.Author.Tests.{leb-true, leb-false, le-leb, lt-leb, ltb-true, ltb-false, lt-ltb, le-ltb, eqb-true, ne_eqb}
-use Rattle.rules.specs.Words.{if◌then◌else◌}
 use Rattle.rules.specs.Events.{Event, tick, measurement, hit, write, set_bucket, assign_bucket, set_week, set_windows, half_ppm}
 use Rattle.rules.specs.Monitors.{Input, frequency_after, measured}
 use Rattle.rules.specs.Settings.{reject, qualification}

@@ -1,4 +1,5 @@
 -- For the promise of service: how far the unit has come after k accepted ticks from the moment, and that each fair event keeps or advances that.
+use Rattle.std.specs.Prelude.{if◌then◌else◌}
 use Prim.Native.Nat.{ℕ, suc, ◌+◌, ◌-◌, ◌*◌, ◌≤◌, ◌<◌, min}
 use mathlib.Core.Path.{◌≡◌, refl, sym, ap, ◌∙◌, subst}
 use mathlib.Core.Logic.{◌⊎◌, inl, inr}
@@ -9,7 +10,7 @@ use lib.Dec.{leb, ltb, eqb}
 use lib.IntN.{ℤ, nat_abs, ◌+ℤ◌}
 use lib.ListN.{length}
 use borrow.Author.Tests.{eqb-true, eqb-false, leb-true, leb-false, ltb-true, ltb-false, eq-eqb, ne_eqb}
-use Rattle.rules.specs.Words.{if◌then◌else◌, bit_of, is_input, is_tracked, is_counted}
+use Rattle.rules.specs.Words.{bit_of, is_input, is_tracked, is_counted}
 use Rattle.rules.specs.Events.{Event, Tick, tick, measurement, hit, write, set_bucket, assign_bucket, set_week, set_windows, half_ppm, is_tick}
 use Rattle.rules.specs.Monitors.{Bucket, Input, monitored, measured, unsoaked, lock_alarmed, qualified}
 use Rattle.rules.specs.Pll.{locked, is, mode_number, Loop, lock_ticks, looped, alarm_due}

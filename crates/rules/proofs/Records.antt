@@ -1,4 +1,5 @@
 -- The promise in the records, proved: the record of an event shows the state that the rules' run has after it.
+use Rattle.std.specs.Prelude.{if◌then◌else◌}
 use Prim.Native.Nat.{ℕ, ◌+◌, ◌*◌, ◌%◌, ◌≤◌}
 use mathlib.Core.Path.{◌≡◌, refl, ap, sym, subst, ◌∙◌}
 use mathlib.Core.Bool.{Bool, true, false, ◌||◌}
@@ -7,7 +8,7 @@ use native.Mathlib.Omega.{arith}
 use borrow.Author.Tests.{eq-eqb}
 use lib.ListN.{length, get_or}
 use lib.Seq.{get_or-append-add}
-use Rattle.rules.specs.Words.{if◌then◌else◌, bit}
+use Rattle.rules.specs.Words.{bit}
 use Rattle.rules.specs.Events.{Event}
 use Rattle.rules.specs.Pll.{Mode, holdover, free_run, locked, is}
 use Rattle.rules.specs.Settings.{delay, reversion}

@@ -1,4 +1,5 @@
 -- The history stays sound: over a sample, a selection and a command.
+use Rattle.std.specs.Prelude.{if◌then◌else◌}
 use Prim.Native.Nat.{ℕ, zero, suc, ◌+◌, ◌*◌, ◌≤◌, ◌<◌}
 use mathlib.Core.Path.{◌≡◌, refl, ◌∙◌}
 use mathlib.Core.Logic.{◌⊎◌, inr}
@@ -10,7 +11,7 @@ use lib.IntN.{ℤ, pos, nat_abs, ◌+ℤ◌}
 use lib.ListN.{length, take, length-take}
 use borrow.Author.Tests.{eqb-true, leb-true, leb-false}
 use Rattle.rules.specs.Events.{sample_limit}
-use Rattle.rules.specs.Words.{if◌then◌else◌, is_counted}
+use Rattle.rules.specs.Words.{is_counted}
 use Rattle.rules.specs.History.{History, block_samples, kept_blocks, ready_blocks, sum_limit, ready, refilled, annotated, with_blocks, open_emptied, saturated, filling, completed, sampled, starts_building, with_last, noted, recorded, backed_up, replaced, with_command, commanded}
 use Rattle.rules.specs.Laws.{Within, SoundBlocks, SoundBuilding, SoundHistory}
 use Rattle.rules.proofs.Tests.{if_case, clash, and_right, not-true}

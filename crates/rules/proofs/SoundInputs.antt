@@ -1,11 +1,12 @@
 -- The eight inputs stay sound, whatever comes.
+use Rattle.std.specs.Prelude.{if◌then◌else◌}
 use Prim.Native.Nat.{ℕ, ◌≤◌}
 use mathlib.Core.Path.{◌≡◌, refl, sym, ◌∙◌}
 use mathlib.Core.Bool.{Bool, true, false, ◌&&◌}
 use native.Mathlib.Omega.{arith}
 use lib.Dec.{eqb}
 use borrow.Author.Tests.{eqb-true, eqb-false}
-use Rattle.rules.specs.Words.{if◌then◌else◌, bit_of, is_input, is_tracked}
+use Rattle.rules.specs.Words.{bit_of, is_input, is_tracked}
 use Rattle.rules.specs.Monitors.{Bucket, Input, monitored, at_size, lock_alarmed}
 use Rattle.rules.specs.Pll.{alarm_due}
 use Rattle.rules.specs.Inputs.{Inputs, input, altered}

@@ -1,4 +1,5 @@
 -- Once Ready stands, it ends only by command 3.
+use Rattle.std.specs.Prelude.{if◌then◌else◌}
 use Prim.Native.Nat.{ℕ, ◌≤◌}
 use mathlib.Core.Path.{◌≡◌, refl, sym, ap, ◌∙◌}
 use mathlib.Core.Logic.{◌⊎◌, inl, inr}
@@ -8,7 +9,7 @@ use lib.Dec.{eqb}
 use lib.IntN.{ℤ}
 use lib.ListN.{length}
 use borrow.Author.Tests.{eqb-true, leb-true, le-leb}
-use Rattle.rules.specs.Words.{if◌then◌else◌, is_counted}
+use Rattle.rules.specs.Words.{is_counted}
 use Rattle.rules.specs.Events.{Event, tick, measurement, hit, write, set_bucket, assign_bucket, set_week, set_windows}
 use Rattle.rules.specs.History.{History, ready_blocks, ready, with_blocks, open_emptied, starts_building, with_last, noted, recorded, backed_up, replaced, with_command, commanded}
 use Rattle.rules.specs.State.{State, Ready, with_settings, with_history}

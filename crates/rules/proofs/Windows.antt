@@ -1,4 +1,5 @@
 -- A run of blocked ticks (#107): it ends with its window, over the week's end too, so it is no longer than the longest of them.
+use Rattle.std.specs.Prelude.{if◌then◌else◌}
 use Prim.Native.Nat.{ℕ, zero, suc, ◌+◌, ◌-◌, ◌≤◌, ◌<◌}
 use mathlib.Core.Path.{◌≡◌, refl}
 use mathlib.Core.Bool.{true, false, not, ◌&&◌, false≢true}
@@ -8,7 +9,6 @@ use native.Mathlib.Nat.{not-suc-le-zero}
 use lib.Dec.{leb, ltb}
 use lib.ListN.{length}
 use borrow.Author.Tests.{leb-true, leb-false, ltb-true, ltb-false, eq-eqb, le-leb, lt-leb, le-ltb, lt-ltb}
-use Rattle.rules.specs.Words.{if◌then◌else◌}
 use Rattle.rules.specs.Week.{week_ticks, Window, in_window, busy, advanced, longest, is_window, ascending, starts_week, last_end, ends_week, windows_fit}
 use Rattle.rules.specs.BusyHours.{place_after, BlockedRun}
 use Rattle.rules.proofs.Tests.{if_case, by_test, clash, and_false, and_left, and_right}

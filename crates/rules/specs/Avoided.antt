@@ -1,8 +1,7 @@
 -- The traps of document 01 and the cheap programs of "Every result is settled", avoided, and a few more wrong rules, each of them an edit in must-fail that is
 -- refused at its row: for each a small case in which the rules give something else. All further cases run as tests.
 -- A run is from the standard fresh unit, or from a unit that is written down: one history is enough to tell a wrong rule.
-use Rattle.std.specs.Prelude.{ℕ, Bool, true, false, List, [], ◌∷◌, pos, negsuc, replicate, set, take}
-use Rattle.rules.specs.Words.{if◌then◌else◌}
+use Rattle.std.specs.Prelude.{ℕ, Bool, true, false, List, [], ◌∷◌, pos, negsuc, replicate, set, take, if◌then◌else◌}
 use Rattle.rules.specs.Events.{tick_with, hit, write, set_bucket, assign_bucket, set_week, set_windows}
 use Rattle.rules.specs.Monitors.{Activity, Input, measured, full_soak}
 use Rattle.rules.specs.Pll.{holdover, pre_locked}

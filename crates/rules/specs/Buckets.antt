@@ -1,6 +1,5 @@
 -- Request #104 of document 02, "Four bucket settings": the four sets, the set of each input, and what the two calls put the inputs at.
-use Rattle.std.specs.Prelude.{ℕ, ◌-◌, ◌^◌, Bool, ◌&&◌, List, leb, ltb, eqb, get_or, set, replicate}
-use Rattle.rules.specs.Words.{if◌then◌else◌}
+use Rattle.std.specs.Prelude.{ℕ, ◌-◌, ◌^◌, Bool, ◌&&◌, List, leb, ltb, eqb, get_or, set, replicate, if◌then◌else◌}
 use Rattle.rules.specs.Monitors.{Bucket, at_size}
 use Rattle.rules.specs.Inputs.{Inputs, each_from}
 

@@ -1,7 +1,7 @@
 -- Document 01, "History (step 5)", as request #102 of document 02 has it: the holdover history, the one that builds beside it, and the commands.
-use Rattle.std.specs.Prelude.{ℕ, ◌+◌, ◌-◌, ◌*◌, min, Bool, true, false, not, ◌&&◌, List, [], ◌∷◌, leb, eqb, ℤ, pos, negsuc, ◌+ℤ◌, length, take}
+use Rattle.std.specs.Prelude.{ℕ, ◌+◌, ◌-◌, ◌*◌, min, Bool, true, false, not, ◌&&◌, List, [], ◌∷◌, leb, eqb, ℤ, pos, negsuc, ◌+ℤ◌, length, take, if◌then◌else◌}
 use Rattle.std.specs.Int.Signed.{shr_z}
-use Rattle.rules.specs.Words.{if◌then◌else◌, is_counted}
+use Rattle.rules.specs.Words.{is_counted}
 use Rattle.rules.specs.Events.{sample_limit}
 
 pub record History : Type 0 where

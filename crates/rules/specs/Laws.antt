@@ -1,7 +1,7 @@
 -- What holds in every state that events lead to from a fresh unit, and other laws of the rules, as statements. The last definition, `Laws`, has them all, and is
 -- proved in proofs/Laws.antt. The laws of the busy hours stand in BusyHours, those of the printed pages in PageLaws.
-use Rattle.std.specs.Prelude.{ℕ, ◌+◌, ◌-◌, ◌*◌, ◌/◌, ◌%◌, ◌^◌, ◌≤◌, ◌<◌, min, ◌≡◌, ◌⊎◌, Bool, true, false, ◌&&◌, List, [], ◌∷◌, ℤ, pos, nat_abs, ◌+ℤ◌, ◌*ℤ◌, ◌≤ℤ◌, length, get_or, drop}
-use Rattle.rules.specs.Words.{if◌then◌else◌, is_input, is_tracked}
+use Rattle.std.specs.Prelude.{ℕ, ◌+◌, ◌-◌, ◌*◌, ◌/◌, ◌%◌, ◌^◌, ◌≤◌, ◌<◌, min, ◌≡◌, ◌⊎◌, Bool, true, false, ◌&&◌, List, [], ◌∷◌, ℤ, pos, nat_abs, ◌+ℤ◌, ◌*ℤ◌, ◌≤ℤ◌, length, get_or, drop, if◌then◌else◌}
+use Rattle.rules.specs.Words.{is_input, is_tracked}
 use Rattle.rules.specs.Events.{Event, sample_limit, is_tick, is_call}
 use Rattle.rules.specs.Monitors.{Bucket, Input, full_soak, qualified, alarm_ticks}
 use Rattle.rules.specs.Pll.{mode_number, holdover, is, Loop, lock_ticks, unlock_ticks}

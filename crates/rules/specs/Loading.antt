@@ -1,7 +1,7 @@
 -- Request #105 of document 02, "Fresh values of the buyer's own": which tables of bytes load, the unit that one makes, and what a fresh unit is.
 -- "A fresh unit may be made from 27 bytes, one for each register in address order; read-only registers and the command must have 0."
-use Rattle.std.specs.Prelude.{ℕ, ◌≡◌, Bool, true, ◌&&◌, ◌||◌, List, leb, eqb, length}
-use Rattle.rules.specs.Words.{if◌then◌else◌, every}
+use Rattle.std.specs.Prelude.{ℕ, ◌≡◌, Bool, true, ◌&&◌, ◌||◌, List, leb, eqb, length, if◌then◌else◌}
+use Rattle.rules.specs.Words.{every}
 use Rattle.rules.specs.State.{State}
 use Rattle.rules.specs.Registers.{Register, registers, map_size, stored, settings_from, fresh_with}
 use Rattle.rules.specs.Refusals.{limits_apart}

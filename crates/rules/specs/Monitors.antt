@@ -1,6 +1,5 @@
 -- Document 01, "Monitors (tick steps 1, 2)", and what a measurement does: one input.
-use Rattle.std.specs.Prelude.{ℕ, ◌+◌, ◌-◌, min, Bool, true, false, not, ◌&&◌, leb, ltb, eqb, ℤ, nat_abs}
-use Rattle.rules.specs.Words.{if◌then◌else◌}
+use Rattle.std.specs.Prelude.{ℕ, ◌+◌, ◌-◌, min, Bool, true, false, not, ◌&&◌, leb, ltb, eqb, ℤ, nat_abs, if◌then◌else◌}
 
 -- ---- 1. the bucket
 

@@ -1,7 +1,7 @@
 -- The history's rules as document 01 has them, before request #102, and the run of a list of events under them: for the comparison (Comparison.antt, and a table of
 -- crate cases) and for nothing else. Everything but the history is as the rules have it, and nothing builds.
-use Rattle.std.specs.Prelude.{ℕ, ◌+◌, Bool, false, not, ◌&&◌, List, [], ◌∷◌, leb, eqb, ℤ, ◌+ℤ◌, take}
-use Rattle.rules.specs.Words.{if◌then◌else◌, is_counted}
+use Rattle.std.specs.Prelude.{ℕ, ◌+◌, Bool, false, not, ◌&&◌, List, [], ◌∷◌, leb, eqb, ℤ, ◌+ℤ◌, take, if◌then◌else◌}
+use Rattle.rules.specs.Words.{is_counted}
 use Rattle.rules.specs.Events.{Event, tick, measurement, hit, write, set_bucket, assign_bucket, set_week, set_windows}
 use Rattle.rules.specs.Pll.{locked, is}
 use Rattle.rules.specs.Settings.{policy}

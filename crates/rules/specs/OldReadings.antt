@@ -1,8 +1,7 @@
 -- The measurement and the events of a sheet as document 01 has them, before request #106: an offset is a "signed byte in 0.5 ppm", compared with the limits as
 -- they stand, and a sheet has kinds 0 to 3. For the comparison (FinerReadings.antt, and `UnitAsBefore` of crate host) and for nothing else; everything but the
 -- measurement and the kinds is as the rules have it.
-use Rattle.std.specs.Prelude.{ℕ, zero, suc, ◌+◌, Bool, true, ◌&&◌, List, [], ◌∷◌, ◌++◌, ltb, eqb, ℤ, drop}
-use Rattle.rules.specs.Words.{if◌then◌else◌}
+use Rattle.std.specs.Prelude.{ℕ, zero, suc, ◌+◌, Bool, true, ◌&&◌, List, [], ◌∷◌, ◌++◌, ltb, eqb, ℤ, drop, if◌then◌else◌}
 use Rattle.rules.specs.Events.{Event, tick, measurement, hit, write, set_bucket, assign_bucket, set_week, set_windows}
 use Rattle.rules.specs.Monitors.{measured}
 use Rattle.rules.specs.Settings.{reject, qualification}

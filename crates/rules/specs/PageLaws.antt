@@ -1,6 +1,5 @@
 -- Document 02, #101: laws of the printed pages, as statements. The last definition, `PageLaws`, has them all, and is proved in proofs/PageLaws.antt.
-use Rattle.std.specs.Prelude.{ℕ, suc, ◌+◌, ◌-◌, ◌*◌, ◌/◌, ◌%◌, ◌≤◌, ◌<◌, ◌≡◌, Bool, true, false, ◌&&◌, List, [], ◌∷◌, ◌++◌, ltb, eqb, length, get_or, take, drop}
-use Rattle.rules.specs.Words.{if◌then◌else◌}
+use Rattle.std.specs.Prelude.{ℕ, suc, ◌+◌, ◌-◌, ◌*◌, ◌/◌, ◌%◌, ◌≤◌, ◌<◌, ◌≡◌, Bool, true, false, ◌&&◌, List, [], ◌∷◌, ◌++◌, ltb, eqb, length, get_or, take, drop, if◌then◌else◌}
 use Rattle.rules.specs.Sheet.{record_count, check, front, over, output_after}
 use Rattle.rules.specs.Printout.{line_feed}
 use Rattle.rules.specs.Pages.{blanks, left_in, state_names, line_columns, line_bytes, page_lines, page_bytes, page_count, page_line, page, pages_of, print}

@@ -1,6 +1,5 @@
 -- Document 02, #101, "Rack printout for the unit's box": the pages of a run's records, byte by byte, and what the call that runs and prints a sheet leaves.
-use Rattle.std.specs.Prelude.{ℕ, zero, suc, ◌+◌, ◌-◌, ◌*◌, ◌/◌, ◌%◌, List, [], ◌∷◌, ◌++◌, ltb, eqb, length, get_or, take, drop, replicate}
-use Rattle.rules.specs.Words.{if◌then◌else◌}
+use Rattle.std.specs.Prelude.{ℕ, zero, suc, ◌+◌, ◌-◌, ◌*◌, ◌/◌, ◌%◌, List, [], ◌∷◌, ◌++◌, ltb, eqb, length, get_or, take, drop, replicate, if◌then◌else◌}
 use Rattle.rules.specs.Sheet.{record_count, check, front, over, output_after}
 use Rattle.rules.specs.Printout.{ascii, blank, line_feed, decimal, hexadecimal}
 

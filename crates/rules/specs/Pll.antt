@@ -1,6 +1,5 @@
 -- Document 01, "PLL (step 3)".
-use Rattle.std.specs.Prelude.{ℕ, ◌+◌, min, Bool, eqb}
-use Rattle.rules.specs.Words.{if◌then◌else◌}
+use Rattle.std.specs.Prelude.{ℕ, ◌+◌, min, Bool, eqb, if◌then◌else◌}
 
 -- the unit's state: "0 Free Run, 1 Holdover, 2 Pre-locked, 3 Locked, 4 Loss of lock, 5 Pre-locked 2"
 pub data Mode : Type 0 where

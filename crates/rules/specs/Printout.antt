@@ -1,8 +1,7 @@
 -- Document 01, "Run sheet and rack program": the text that the rack program prints for a sheet, byte by byte.
-use Rattle.std.specs.Prelude.{ℕ, zero, suc, ◌+◌, ◌*◌, ◌/◌, ◌%◌, List, [], ◌∷◌, ◌++◌, ltb, eqb, get_or, drop}
+use Rattle.std.specs.Prelude.{ℕ, zero, suc, ◌+◌, ◌*◌, ◌/◌, ◌%◌, List, [], ◌∷◌, ◌++◌, ltb, eqb, get_or, drop, if◌then◌else◌}
 use Prim.Native.Char.{code}
 use Prim.Native.String.{String, [] as end, ◌∷◌ as ◌then◌}
-use Rattle.rules.specs.Words.{if◌then◌else◌}
 use Rattle.rules.specs.Sheet.{check, record_count, front}
 
 -- ---- ASCII

@@ -1,6 +1,5 @@
 -- Document 01, "Registers": what a read shows, at every address.
-use Rattle.std.specs.Prelude.{ℕ, zero, suc, ◌+◌, ◌-◌, ◌*◌, ◌^◌, ◌/◌, ◌%◌, min, Bool, ◌||◌, eqb, ℤ, pos, negsuc}
-use Rattle.rules.specs.Words.{if◌then◌else◌}
+use Rattle.std.specs.Prelude.{ℕ, zero, suc, ◌+◌, ◌-◌, ◌*◌, ◌^◌, ◌/◌, ◌%◌, min, Bool, ◌||◌, eqb, ℤ, pos, negsuc, if◌then◌else◌}
 use Rattle.rules.specs.Monitors.{qualified}
 use Rattle.rules.specs.Inputs.{Inputs, input}
 use Rattle.rules.specs.Pll.{Mode, mode_number, free_run, holdover, locked, is}

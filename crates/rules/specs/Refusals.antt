@@ -1,6 +1,6 @@
 -- Document 01, "Turned down", numbers 1 to 8, and 14 and 16 of requests #104 and #107: what an event is turned down with. "Checked in number order."
-use Rattle.std.specs.Prelude.{ℕ, ◌+◌, Bool, not, ◌&&◌, ◌||◌, List, leb, ltb, eqb, nat_abs}
-use Rattle.rules.specs.Words.{if◌then◌else◌, is_input, is_tracked}
+use Rattle.std.specs.Prelude.{ℕ, ◌+◌, Bool, not, ◌&&◌, ◌||◌, List, leb, ltb, eqb, nat_abs, if◌then◌else◌}
+use Rattle.rules.specs.Words.{is_input, is_tracked}
 use Rattle.rules.specs.Events.{Event, tick, measurement, hit, write, set_bucket, assign_bucket, set_week, set_windows, sample_limit}
 use Rattle.rules.specs.Settings.{Settings, reject, qualification}
 use Rattle.rules.specs.Week.{week_ticks, Window, windows_fit}

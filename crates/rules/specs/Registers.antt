@@ -1,6 +1,6 @@
 -- Document 01, "Registers": the map, and a fresh unit.
-use Rattle.std.specs.Prelude.{ℕ, ◌-◌, ◌%◌, Bool, true, false, List, [], ◌∷◌, map, ltb, leb, eqb, get_or, replicate}
-use Rattle.rules.specs.Words.{if◌then◌else◌, between}
+use Rattle.std.specs.Prelude.{ℕ, ◌-◌, ◌%◌, Bool, true, false, List, [], ◌∷◌, map, ltb, leb, eqb, get_or, replicate, if◌then◌else◌}
+use Rattle.rules.specs.Words.{between}
 use Rattle.rules.specs.Monitors.{fresh_input}
 use Rattle.rules.specs.Pll.{free_run}
 use Rattle.rules.specs.Settings.{Settings}

@@ -1,6 +1,5 @@
 -- What each event leaves, and a list of events.
-use Rattle.std.specs.Prelude.{ℕ, ◌*◌, List, [], ◌∷◌, eqb, ℤ}
-use Rattle.rules.specs.Words.{if◌then◌else◌}
+use Rattle.std.specs.Prelude.{ℕ, ◌*◌, List, [], ◌∷◌, eqb, ℤ, if◌then◌else◌}
 use Rattle.rules.specs.Events.{Event, tick, measurement, hit, write, set_bucket, assign_bucket, set_week, set_windows, half_ppm}
 use Rattle.rules.specs.Monitors.{Bucket, measured, unsoaked}
 use Rattle.rules.specs.Settings.{reject, qualification}

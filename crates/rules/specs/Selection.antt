@@ -1,7 +1,7 @@
 -- Document 01, "Selection (step 4)", with the busy hours of request #107 of document 02: which candidate is selected, the wait, and the state after the
 -- choice.
-use Rattle.std.specs.Prelude.{ℕ, zero, suc, ◌+◌, ◌-◌, min, Bool, not, ◌&&◌, ◌||◌, leb, eqb}
-use Rattle.rules.specs.Words.{if◌then◌else◌, is_input}
+use Rattle.std.specs.Prelude.{ℕ, zero, suc, ◌+◌, ◌-◌, min, Bool, not, ◌&&◌, ◌||◌, leb, eqb, if◌then◌else◌}
+use Rattle.rules.specs.Words.{is_input}
 use Rattle.rules.specs.Monitors.{qualified}
 use Rattle.rules.specs.Inputs.{Inputs, input}
 use Rattle.rules.specs.Pll.{Mode, free_run, holdover, pre_locked, pre_locked2, is, Loop}

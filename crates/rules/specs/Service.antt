@@ -1,6 +1,6 @@
 -- Document 01, "Demand 3", as requests #104 to #107 of document 02 have it: the promise of service, one claim about whole histories from a fresh unit.
-use Rattle.std.specs.Prelude.{ℕ, ◌+◌, ◌*◌, ◌-◌, ◌^◌, ◌≤◌, max, ◌≡◌, true, false, ◌&&◌, List, [], ◌∷◌, ◌++◌, nat_abs}
-use Rattle.rules.specs.Words.{if◌then◌else◌, bit_of}
+use Rattle.std.specs.Prelude.{ℕ, ◌+◌, ◌*◌, ◌-◌, ◌^◌, ◌≤◌, max, ◌≡◌, true, false, ◌&&◌, List, [], ◌∷◌, ◌++◌, nat_abs, if◌then◌else◌}
+use Rattle.rules.specs.Words.{bit_of}
 use Rattle.rules.specs.Events.{Event, tick, measurement, hit, write, set_bucket, assign_bucket, set_week, set_windows, half_ppm, is_tick}
 use Rattle.rules.specs.Monitors.{Bucket, full_soak, alarm_ticks}
 use Rattle.rules.specs.Pll.{lock_ticks}

@@ -1,6 +1,6 @@
 -- What the rules read in the registers that may be written (document 01, "Registers"). A setting is the value at its address.
-use Rattle.std.specs.Prelude.{ℕ, ◌+◌, ◌*◌, ◌/◌, ◌%◌, Bool, ◌&&◌, ◌||◌, ltb, eqb}
-use Rattle.rules.specs.Words.{if◌then◌else◌, bit, bit_of, is_input}
+use Rattle.std.specs.Prelude.{ℕ, ◌+◌, ◌*◌, ◌/◌, ◌%◌, Bool, ◌&&◌, ◌||◌, ltb, eqb, if◌then◌else◌}
+use Rattle.rules.specs.Words.{bit, bit_of, is_input}
 
 abbrev pub Settings : Type 0
 Settings = ℕ → ℕ

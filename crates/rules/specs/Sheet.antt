@@ -1,7 +1,6 @@
 -- Document 01, "Run sheet and rack program", with the kind of request #106 of document 02: a run sheet, its check, and the records of its run. Sheets and
 -- outputs are lists of bytes.
-use Rattle.std.specs.Prelude.{ℕ, zero, suc, ◌+◌, ◌*◌, ◌-◌, Bool, true, not, ◌&&◌, ◌||◌, List, [], ◌∷◌, ◌++◌, leb, ltb, eqb, ℤ, pos, negsuc, nat_abs, length, get_or, drop}
-use Rattle.rules.specs.Words.{if◌then◌else◌}
+use Rattle.std.specs.Prelude.{ℕ, zero, suc, ◌+◌, ◌*◌, ◌-◌, Bool, true, not, ◌&&◌, ◌||◌, List, [], ◌∷◌, ◌++◌, leb, ltb, eqb, ℤ, pos, negsuc, nat_abs, length, get_or, drop, if◌then◌else◌}
 use Rattle.rules.specs.Events.{Event, tick_with, measurement, old_kind, hit, write}
 use Rattle.rules.specs.State.{State}
 use Rattle.rules.specs.Registers.{fresh}

@@ -1,6 +1,6 @@
 -- A tick: its five steps in order, and after the selection the place in the week (#107).
-use Rattle.std.specs.Prelude.{ℕ, ◌+◌, ◌*◌, min, Bool, ◌&&◌, ℤ}
-use Rattle.rules.specs.Words.{if◌then◌else◌, bit_of, is_tracked}
+use Rattle.std.specs.Prelude.{ℕ, ◌+◌, ◌*◌, min, Bool, ◌&&◌, ℤ, if◌then◌else◌}
+use Rattle.rules.specs.Words.{bit_of, is_tracked}
 use Rattle.rules.specs.Events.{Tick}
 use Rattle.rules.specs.Monitors.{Bucket, monitored, lock_alarmed}
 use Rattle.rules.specs.Pll.{Mode, holdover, locked, is, Loop, looped, alarm_due}

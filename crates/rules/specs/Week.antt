@@ -1,6 +1,5 @@
 -- Request #107 of document 02, "No reversion during busy hours": the week, the place in it, the windows, and the one check of the calls that set them.
-use Rattle.std.specs.Prelude.{ℕ, zero, suc, ◌+◌, ◌-◌, ◌*◌, max, Bool, true, false, not, ◌&&◌, ◌||◌, List, [], ◌∷◌, leb, ltb, eqb, length, get_or}
-use Rattle.rules.specs.Words.{if◌then◌else◌}
+use Rattle.std.specs.Prelude.{ℕ, zero, suc, ◌+◌, ◌-◌, ◌*◌, max, Bool, true, false, not, ◌&&◌, ◌||◌, List, [], ◌∷◌, leb, ltb, eqb, length, get_or, if◌then◌else◌}
 
 -- "A week is 4,725,000 ticks"
 abbrev pub week_ticks : ℕ

@@ -1,10 +1,5 @@
--- Words that the rules are written in: a choice by a test, a test of a whole list, bits and masks, the numbers of inputs and references.
+-- Words that the rules are written in: a test of a whole list, bits and masks, the numbers of inputs and references.
 use Rattle.std.specs.Prelude.{ℕ, ◌-◌, ◌^◌, ◌/◌, ◌%◌, Bool, true, false, ◌&&◌, List, [], ◌∷◌, leb, eqb}
-
-infix 20 if◌then◌else◌
-abbrev pub if◌then◌else◌ : {A : Type 0} → Bool → A → A → A
-if true then x else y = x
-if false then x else y = y
 
 -- every element of a list passes a test
 abbrev pub every : {A : Type 0} → (A → Bool) → List A → Bool

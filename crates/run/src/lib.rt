@@ -1,5 +1,7 @@
 // The run of a sheet on the standard fresh unit (document 01, "Run sheet and rack program"): its settings, its events and their records; and what run_c exports.
 // Each contract is an equation with a rule of crates/rules/specs/Sheet.antt; the rule is named above the function.
+#![tactic(auto)]
+
 ghost use Rattle.std.specs.Prelude.{◌≡◌, ◌*◌, ◌≤◌, length};
 ghost use Rattle.rules.specs.Run as rules;
 ghost use Rattle.rules.specs.Sheet as rules-sheet;

@@ -1,5 +1,7 @@
 // The bytes of a run sheet (document 01, "Run sheet and rack program"): its numbers, its events, and its check.
 // Each contract is an equation with a rule of crates/rules/specs/Sheet.antt; the rule is named above the function.
+#![tactic(auto)]
+
 ghost use Rattle.std.specs.Prelude.{◌≡◌, ◌+◌, ◌*◌, ◌≤◌, ◌<◌, length, get_or};
 ghost use Rattle.rules.specs.Sheet as rules;
 ghost use Rattle.rules.specs.Sheet.{word16, word32, signed_word, settings_count, events_count, all_events};

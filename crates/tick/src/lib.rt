@@ -2,8 +2,8 @@
 // numbers go by value.
 #![tactic(auto)]
 
-ghost use Rattle.std.specs.Prelude.{◌≡◌, ◌&&◌};
-ghost use Rattle.rules.specs.Words.{if◌then◌else◌, is_tracked};
+ghost use Rattle.std.specs.Prelude.{◌≡◌, ◌&&◌, if◌then◌else◌};
+ghost use Rattle.rules.specs.Words.{is_tracked};
 ghost use Rattle.rules.specs.Monitors.{lock_alarmed};
 ghost use Rattle.rules.specs.Pll.{alarm_due};
 ghost use Rattle.rules.specs.Pll as pll;

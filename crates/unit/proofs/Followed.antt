@@ -1,11 +1,11 @@
 -- What is handed on is a floor of the registers' delay after a write too.
+use Rattle.std.specs.Prelude.{if◌then◌else◌}
 use Prim.Native.Nat.{ℕ, ◌≤◌}
 use mathlib.Core.Path.{◌≡◌, refl, ap, sym, ◌∙◌}
 use native.Mathlib.Omega.{arith}
 use mathlib.Core.Bool.{false}
 use lib.Dec.{eqb}
 use borrow.Author.Tests.{eqb-false, ne_eqb}
-use Rattle.rules.specs.Words.{if◌then◌else◌}
 use Rattle.rules.specs.Settings.{Settings, delay, delay_ticks, reversion}
 use Rattle.rules.specs.Registers.{written}
 use Rattle.rules.proofs.Tests.{if_case}

@@ -1,10 +1,11 @@
 // The four events of a run sheet (document 01): what each gives, a number and the state after it.
 // The arrays of the state are lent and changed where they lie, the numbers go by value. A refusal leaves every stored number as it was.
 // Each contract is an equation with a rule of crates/rules/specs through crates/state/specs/Stored.antt; the rule is named above the function.
-ghost use Rattle.std.specs.Prelude.{◌≡◌, true, ◌*◌, leb, eqb, nat_abs};
+#![tactic(auto)]
+
+ghost use Rattle.std.specs.Prelude.{◌≡◌, true, ◌*◌, leb, eqb, nat_abs, if◌then◌else◌};
 ghost use Rattle.rules.specs.Registers.{in_map, written, settings_from};
 ghost use Rattle.rules.specs.Settings.{delay, delay_ticks};
-ghost use Rattle.rules.specs.Words.{if◌then◌else◌};
 ghost use Rattle.rules.specs.Events as events;
 ghost use Rattle.rules.specs.Events.{half_ppm, sample_limit};
 ghost use Rattle.rules.specs.Run.{after_write};

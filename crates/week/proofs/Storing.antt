@@ -1,4 +1,5 @@
 -- What is stored of windows that pass the check are those windows.
+use Rattle.std.specs.Prelude.{if◌then◌else◌}
 use Prim.Native.Nat.{ℕ, zero, suc, ◌+◌, ◌*◌, ◌≤◌, ◌<◌}
 use mathlib.Core.Path.{◌≡◌, refl, ap, ◌∙◌}
 use mathlib.Core.Bool.{true, ◌&&◌}
@@ -7,7 +8,6 @@ use native.Mathlib.Omega.{arith}
 use lib.Dec.{leb, ltb}
 use lib.ListN.{length, get_or}
 use borrow.Author.Tests.{leb-true, lt-ltb, le-ltb}
-use Rattle.rules.specs.Words.{if◌then◌else◌}
 use Rattle.rules.specs.Week.{week_ticks, is_window, ascending, windows_fit, window_at, windows_from, first_windows}
 use Rattle.rules.proofs.Tests.{and_left, and_right}
 use Rattle.week.specs.Bridge.{standing, windows_of, listed, kept_at, kept_numbers}

@@ -1,6 +1,5 @@
 -- From the stored place and windows to the rules' week.
-use Rattle.std.specs.Prelude.{ℕ, zero, suc, ◌*◌, List, [], ◌∷◌, ltb, get_or}
-use Rattle.rules.specs.Words.{if◌then◌else◌}
+use Rattle.std.specs.Prelude.{ℕ, zero, suc, ◌*◌, List, [], ◌∷◌, ltb, get_or, if◌then◌else◌}
 use Rattle.rules.specs.Week as rules
 use Rattle.rules.specs.Week.{Window, windows_from}
 

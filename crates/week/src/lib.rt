@@ -2,8 +2,7 @@
 // windows that pass it. Places and windows are in ticks from the week's start.
 #![tactic(auto)]
 
-ghost use Rattle.std.specs.Prelude.{◌≡◌, ◌&&◌, [], ◌+◌, ◌≤◌, leb, ltb};
-ghost use Rattle.rules.specs.Words.{if◌then◌else◌};
+ghost use Rattle.std.specs.Prelude.{◌≡◌, ◌&&◌, [], ◌+◌, ◌≤◌, leb, ltb, if◌then◌else◌};
 ghost use Rattle.rules.specs.Week as rules;
 ghost use Rattle.rules.specs.Week.{week_ticks, ascending, starts_week, ends_week, first_windows};
 ghost use Rattle.rules.specs.Refusals.{week_refusal, windows_refusal};

@@ -1,4 +1,5 @@
 -- What a write is turned down with, and what it leaves of the settings.
+use Rattle.std.specs.Prelude.{if◌then◌else◌}
 use Prim.Native.Nat.{ℕ, ◌≤◌, ◌<◌}
 use mathlib.Core.Path.{◌≡◌, ◌∙◌}
 use mathlib.Core.Bool.{Bool, true, not}
@@ -8,7 +9,6 @@ use lib.Dec.{eqb}
 use lib.ListN.{length, get_or, set}
 use lib.Seq.{get_or-set_same, get_or-set_other}
 use borrow.Author.Tests.{lt-ltb, le-ltb, eqb-true, eqb-false, not-false}
-use Rattle.rules.specs.Words.{if◌then◌else◌}
 use Rattle.rules.specs.Settings.{Settings}
 use Rattle.rules.specs.Registers.{slot, in_map, stored, written, settings_from}
 use Rattle.rules.specs.Refusals.{write_refusal}

@@ -1,8 +1,7 @@
 // Writes of registers (document 01, "Registers" and "Turned down"): what turns a write down, and what it stores.
 #![tactic(auto)]
 
-ghost use Rattle.std.specs.Prelude.{◌≡◌, ◌&&◌, ◌+◌, leb, eqb};
-ghost use Rattle.rules.specs.Words.{if◌then◌else◌};
+ghost use Rattle.std.specs.Prelude.{◌≡◌, ◌&&◌, ◌+◌, leb, eqb, if◌then◌else◌};
 ghost use Rattle.rules.specs.Registers as rules;
 ghost use Rattle.rules.specs.Registers.{settings_from};
 ghost use Rattle.rules.specs.Refusals.{limits_refused, command_refused, write_refusal};

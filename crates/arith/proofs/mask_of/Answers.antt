@@ -1,8 +1,8 @@
 -- Each weight is that of its test; the rule adds 0 at the end.
+use Rattle.std.specs.Prelude.{if◌then◌else◌}
 use Prim.Native.Nat.{◌+◌}
 use mathlib.Core.Path.{sym, ◌∙◌}
 use native.Mathlib.Nat.{add-zero}
-use Rattle.rules.specs.Words.{if◌then◌else◌}
 use Rattle.rules.specs.Reading.{mask_up_to}
 use Rattle.arith.proofs.mask_of.Goals as goal
 

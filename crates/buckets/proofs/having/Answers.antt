@@ -1,10 +1,10 @@
 -- Each number is what its call ensures, and the set's number is the byte that was given.
+use Rattle.std.specs.Prelude.{if◌then◌else◌}
 use Prim.Native.Nat.{◌%◌}
 use mathlib.Core.Path.{◌∙◌}
 use mathlib.Core.List.{[], ◌∷◌}
 use lib.Dec.{eqb}
 use lib.ListN.{get_or}
-use Rattle.rules.specs.Words.{if◌then◌else◌}
 use Rattle.buckets.specs.Bridge.{eight}
 use Rattle.buckets.proofs.having.Goals as goal
 

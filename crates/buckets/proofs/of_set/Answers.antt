@@ -1,4 +1,5 @@
 -- The tests tell the four numbers that the two lowest bits have.
+use Rattle.std.specs.Prelude.{if◌then◌else◌}
 use Prim.Native.Nat.{ℕ, zero, suc, ◌<◌, ◌%◌}
 use mathlib.Core.Path.{◌≡◌, refl, ◌∙◌}
 use mathlib.Core.List.{[], ◌∷◌}
@@ -6,7 +7,6 @@ use native.Mathlib.Nat.{mod-lt}
 use native.Mathlib.Omega.{arith}
 use lib.Dec.{eqb}
 use lib.ListN.{get_or}
-use Rattle.rules.specs.Words.{if◌then◌else◌}
 use Rattle.buckets.proofs.of_set.Goals as goal
 
 by_tests : (a b c d n : ℕ) → n < 4 → (if eqb n 1 then b else (if eqb n 2 then c else (if eqb n 3 then d else a))) ≡ get_or (a ∷ b ∷ c ∷ d ∷ []) n 0

@@ -1,6 +1,5 @@
 -- No event, or one that is handled.
 use mathlib.Core.Path.{◌≡◌, ap, sym, ◌∙◌}
-use borrow.Author.Rules.{rules}
 use mir.Facts.{to_z-of_z}
 use Rattle.rules.specs.Sheet.{event, decoded_number, fields}
 use Rattle.fields.specs.Bridge.{decoded_of}
@@ -19,5 +18,5 @@ pub returns : goal.returns
 returns c =
     let a = c.args in
     let known : event (event_of c.in-Event.e) ≡ fields a.kind a.a a.b a.word =
-      sym (ap decoded_of c.in-Event.is) ∙ c.decode-d.ensures ∙ ap (fields a.kind a.a a.b) (to_z-of_z c.ranges.word) in
+    sym (ap decoded_of c.in-Event.is) ∙ c.decode-d.ensures ∙ ap (fields a.kind a.a a.b) (to_z-of_z c.ranges.word) in
     handled _ _ _ _ known c.handle.ensures

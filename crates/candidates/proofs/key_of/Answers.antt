@@ -1,7 +1,7 @@
 -- The key of a candidate: the bytes, widened, have the same values.
+use Rattle.std.specs.Prelude.{if◌then◌else◌}
 use Prim.Native.Nat.{◌+◌, ◌*◌}
 use mathlib.Core.Path.{◌∙◌}
-use Rattle.rules.specs.Words.{if◌then◌else◌}
 use Rattle.candidates.specs.Keys.{no_key}
 use Rattle.candidates.proofs.key_of.Goals as goal
 

@@ -1,6 +1,5 @@
 -- The two arms are the rule's.
 use mathlib.Core.Path.{refl}
-use borrow.Author.Rules.{rules}
 use borrow.Author.Tests.{lt-ltb, le-ltb}
 use Rattle.rules.specs.Printout.{digit}
 use Rattle.digits.proofs.digit.Goals as goal

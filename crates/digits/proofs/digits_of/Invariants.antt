@@ -1,7 +1,6 @@
 -- The loop's invariant: the digits behind those of `rest` are written. The measure is `rest`.
 use Prim.Native.Nat.{◌≤◌}
-use native.Mathlib.Omega.{arith}
-use Rattle.digits.proofs.Columns.{Written, none_written, room_left, one_written, all_written}
+use Rattle.digits.proofs.Columns.{Written}
 use Rattle.digits.proofs.digits_of.Given as goal
 
 abbrev pub invariant-loop-rest : goal.invariant-loop-rest

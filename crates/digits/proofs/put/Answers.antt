@@ -2,7 +2,6 @@
 use mathlib.Core.Path.{refl, sym}
 use native.Mathlib.Omega.{arith}
 use lib.Seq.{set_out}
-use borrow.Author.Rules.{rules}
 use Rattle.digits.proofs.put.Goals as goal
 
 pub returns-then-at-out : goal.returns-then-at-out

@@ -1,6 +1,5 @@
 -- The columns from the first digit on.
 use native.Mathlib.Omega.{arith}
-use borrow.Author.Rules.{rules}
 use Rattle.digits.proofs.Columns.{columns_length, from_start}
 use Rattle.digits.proofs.put_decimal.Goals as goal
 

@@ -2,7 +2,6 @@
 use Prim.Native.Nat.{◌/◌, ◌%◌}
 use mathlib.Core.Path.{◌≡◌}
 use native.Mathlib.Omega.{arith}
-use borrow.Author.Rules.{rules}
 use Rattle.rules.specs.Printout.{hexadecimal}
 use Rattle.digits.proofs.Putting.{then}
 use Rattle.digits.proofs.put_hexadecimal.Goals as goal

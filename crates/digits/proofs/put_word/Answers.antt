@@ -1,11 +1,7 @@
 -- The loop's invariant: the first i bytes of the word are put.
-use Prim.Native.Nat.{◌-◌, ◌≤◌}
 use native.Mathlib.Numerals.{add-one}
 use native.Mathlib.Omega.{arith}
-use lib.ListN.{length, take}
 use lib.Seq.{take-suc, take_all}
-use borrow.Author.Rules.{rules}
-use Rattle.digits.specs.Puts.{Puts}
 use Rattle.digits.proofs.Putting as puts
 use Rattle.digits.proofs.Putting.{nothing, then}
 use Rattle.digits.proofs.put_word.Goals as goal

@@ -1,11 +1,10 @@
 -- A tick by its kind. Of the other kinds only 4 uses the word: where it is 0 the other fields decide, and where it is not every kind but 4 gives bad.
+use Rattle.std.specs.Prelude.{if◌then◌else◌}
 use mathlib.Core.Path.{◌≡◌, refl, ap, sym, ◌∙◌}
 use mathlib.Core.Bool.{Bool, true, false, ◌&&◌}
 use lib.Dec.{eqb}
-use borrow.Author.Rules.{rules}
 use borrow.Author.Tests.{ne_eqb}
 use mir.Facts.{to_z-of_z}
-use Rattle.rules.specs.Words.{if◌then◌else◌}
 use Rattle.rules.specs.Sheet.{is_zero, bad, tick_of, measurement_of, hit_of, write_of, finer_of, fields}
 use Rattle.fields.specs.Bridge.{wordless_of}
 use Rattle.fields.proofs.Words.{zero_is}

@@ -1,6 +1,5 @@
 -- The number of each case.
 use mathlib.Core.Path.{sym, ap}
-use borrow.Author.Rules.{rules}
 use Rattle.rules.specs.Sheet.{decoded_number}
 use Rattle.fields.specs.Bridge.{decoded_of}
 use Rattle.fields.proofs.number_of.Goals as goal

@@ -1,11 +1,11 @@
 -- A block that is done joins the history that fills; otherwise the sums stay.
+use Rattle.std.specs.Prelude.{if◌then◌else◌}
 use mathlib.Core.Path.{sym, ap, ◌∙◌}
 use lib.IntN.{ℤ}
 use mir.Syntax.{w64}
 use mir.Val.{SFits}
 use mir.Facts.{to_z-of_z}
 use borrow.Author.Rules.{rules}
-use Rattle.rules.specs.Words.{if◌then◌else◌}
 use Rattle.rules.specs.History.{saturated, completed, recorded}
 use Rattle.history.specs.Bridge.{history_of}
 use Rattle.history.proofs.recorded.Goals as goal

@@ -1,7 +1,7 @@
 -- The rule's two choices, with what each call ensures.
+use Rattle.std.specs.Prelude.{if◌then◌else◌}
 use mathlib.Core.Path.{◌∙◌}
 use lib.Dec.{leb}
-use Rattle.rules.specs.Words.{if◌then◌else◌}
 use Rattle.monitor.specs.Rows.{activity_number}
 use Rattle.monitor.proofs.activity_of.Goals as goal
 

@@ -1,10 +1,10 @@
 -- A count below the last one is not stopped there.
+use Rattle.std.specs.Prelude.{if◌then◌else◌}
 use Prim.Native.Nat.{ℕ, ◌+◌, ◌%◌, min, max}
 use mathlib.Core.Path.{◌≡◌, ◌∙◌}
 use native.Mathlib.Omega.{arith}
 use lib.Dec.{ltb}
 use borrow.Author.Tests.{ltb-true}
-use Rattle.rules.specs.Words.{if◌then◌else◌}
 use Rattle.rules.proofs.Tests.{by_test}
 use Rattle.monitor.specs.Rows.{decay_number}
 use Rattle.monitor.proofs.decay_of.Goals as goal

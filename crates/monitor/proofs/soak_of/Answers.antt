@@ -1,6 +1,6 @@
 -- The rule's choice, with what each call ensures.
+use Rattle.std.specs.Prelude.{if◌then◌else◌}
 use mathlib.Core.Path.{◌∙◌}
-use Rattle.rules.specs.Words.{if◌then◌else◌}
 use Rattle.rules.specs.Monitors.{soak_after}
 use Rattle.monitor.proofs.soak_of.Goals as goal
 

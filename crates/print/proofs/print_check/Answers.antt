@@ -1,11 +1,10 @@
 -- The sheet's own number; else 13 or 0 by the room for its pages.
+use Rattle.std.specs.Prelude.{if◌then◌else◌}
 use mathlib.Core.Path.{◌≡◌, refl, ap, sym, ◌∙◌}
 use native.Mathlib.Omega.{arith}
 use Prim.Native.Nat.{◌*◌}
 use lib.Dec.{ltb}
-use borrow.Author.Rules.{rules}
 use borrow.Author.Tests.{eq-eqb, ne_eqb}
-use Rattle.rules.specs.Words.{if◌then◌else◌}
 use Rattle.rules.specs.Sheet.{record_count, check}
 use Rattle.rules.specs.Pages.{page_bytes, page_count, print_check}
 use Rattle.print.proofs.print_check.Goals as goal

@@ -4,7 +4,6 @@ use mathlib.Core.List.{List}
 use Prim.Native.Nat.{ℕ}
 use native.Mathlib.Omega.{arith}
 use lib.ListN.{length, take}
-use borrow.Author.Rules.{rules}
 use Rattle.rules.specs.Sheet.{front}
 use Rattle.rules.specs.Pages.{print_check}
 use Rattle.rules.proofs.Sheets.{outputs, front_part}

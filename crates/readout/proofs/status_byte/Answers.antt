@@ -1,9 +1,9 @@
 -- Each bit is its test's weight.
+use Rattle.std.specs.Prelude.{if◌then◌else◌}
 use Prim.Native.Nat.{ℕ, ◌+◌}
 use mathlib.Core.Bool.{Bool, true, false, not, ◌||◌}
 use mathlib.Core.Path.{◌≡◌, refl, ap, ◌∙◌}
 use Rattle.rules.specs.Pll.{locked, is}
-use Rattle.rules.specs.Words.{if◌then◌else◌}
 use Rattle.pll.specs.Bridge.{mode_of}
 use Rattle.rules.specs.Reading as reading
 use Rattle.readout.proofs.status_byte.Goals as goal

@@ -1,8 +1,7 @@
 -- The four bytes are what the rules read at 0x48, 0x46 and 0x49 behind the refusal.
-use mathlib.Core.Path.{ap, ◌∙◌}
+use mathlib.Core.Path.{◌∙◌}
 use lib.ListN.{length-set}
 use native.Mathlib.Omega.{arith}
-use borrow.Author.Rules.{rules}
 use Rattle.rules.specs.Reading.{status_byte}
 use Rattle.pll.specs.Bridge.{mode_of}
 use Rattle.state.specs.Stored.{meaning, with_core, with_soak}

@@ -1,25 +1,14 @@
 -- After i events their records are written, and the rest, run from the state so far, gives the rest of them. Keys and floor follow the registers.
-use Prim.Native.Nat.{ℕ, ◌≤◌, ◌<◌, ◌-◌, ◌*◌, ◌+◌, ◌^◌}
-use mathlib.Core.Path.{◌≡◌, sym, ap, ◌∙◌}
-use mathlib.Core.List.{List}
-use native.Mathlib.Nat.{sub-zero}
-use native.Mathlib.Omega.{arith}
-use lib.IntN.{ℤ}
-use lib.ListN.{length, drop, length-drop}
-use borrow.Author.Rules.{rules}
+use Prim.Native.Nat.{◌≤◌, ◌-◌, ◌*◌}
+use mathlib.Core.Path.{◌≡◌}
+use lib.ListN.{drop}
 use Rattle.rules.specs.Registers.{settings_from}
-use Rattle.rules.specs.Sheet as rules
-use Rattle.rules.specs.Sheet.{bad, decode, events_of, records}
+use Rattle.rules.specs.Sheet.{events_of, records}
 use Rattle.buckets.specs.Bridge.{numbers, numbers_of}
-use Rattle.inputs.specs.declared.Monitors.{Monitors}
 use Rattle.selection.specs.Bridge.{Follows}
-use Rattle.state.specs.Stored.{Stored, meaning, with_core, with_rows, with_registers, with_windows, with_sums, with_building, with_backup}
-use Rattle.state.specs.declared.Core.{Core}
-use Rattle.fields.specs.Bridge.{decoded_of}
-use Rattle.rules.proofs.Parts.{part_all}
-use Rattle.sheet.proofs.Parts.{event_part, event_length}
+use Rattle.state.specs.Stored.{Stored, meaning}
 use Rattle.run.proofs.Lying.{rows, lying}
-use Rattle.run.proofs.Turns.{Going, going_start, going_put, going_done, events_more, events_stop}
+use Rattle.run.proofs.Turns.{Going}
 use Rattle.run.proofs.run_events.Given as goal
 
 abbrev pub invariant-loop-i : goal.invariant-loop-i

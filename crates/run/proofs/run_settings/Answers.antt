@@ -1,24 +1,15 @@
 -- After i settings their records are written, and the rest, run from the state so far, gives the rest of them and the same state. Keys and floor follow the
 -- registers.
-use Prim.Native.Nat.{ℕ, ◌≤◌, ◌<◌, ◌-◌, ◌*◌, ◌+◌, ◌^◌}
-use mathlib.Core.List.{List}
-use mathlib.Core.Path.{◌≡◌, refl, sym, ap, ◌∙◌}
-use native.Mathlib.Nat.{sub-zero}
+use Prim.Native.Nat.{ℕ, ◌-◌, ◌*◌, ◌+◌}
+use mathlib.Core.Path.{◌≡◌, sym, ap, ◌∙◌}
 use native.Mathlib.Omega.{arith}
-use lib.IntN.{ℤ}
-use lib.ListN.{length, drop, length-drop}
-use borrow.Author.Rules.{rules}
+use lib.ListN.{drop}
 use Rattle.rules.specs.Run as rules
 use Rattle.rules.specs.Run.{run, outcome}
-use Rattle.rules.specs.Registers.{settings_from}
-use Rattle.rules.specs.Sheet.{settings_of, records}
-use Rattle.rules.specs.State.{State}
-use Rattle.selection.specs.Bridge.{Follows}
-use Rattle.state.specs.Stored.{Stored, meaning, with_core, with_soak, with_registers, with_sums, with_building, with_backup}
-use Rattle.state.specs.declared.Core.{Core}
-use Rattle.rules.proofs.Parts.{part_all}
+use Rattle.rules.specs.Sheet.{settings_of}
+use Rattle.state.specs.Stored.{Stored, with_soak, with_registers, with_sums, with_building, with_backup}
 use Rattle.run.proofs.Lying.{soaked}
-use Rattle.run.proofs.Turns.{Going, going_start, going_put, going_done, settings_more}
+use Rattle.run.proofs.Turns.{going_put, going_done, settings_more}
 use Rattle.run.proofs.run_settings.Goals as goal
 
 pub loop-i-preserved : goal.loop-i-preserved

@@ -1,5 +1,4 @@
 -- What `sheet::check` ensures.
-use borrow.Author.Rules.{rules}
 use Rattle.run.proofs.sheet_check.Goals as goal
 
 pub returns : goal.returns

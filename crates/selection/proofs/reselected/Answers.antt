@@ -1,9 +1,9 @@
 -- The automatic choice: an arm of the rule for each return.
+use Rattle.std.specs.Prelude.{if◌then◌else◌}
 use Prim.Native.Nat.{ℕ}
 use mathlib.Core.Path.{◌≡◌, refl, ap, sym, ◌∙◌}
 use mathlib.Core.Bool.{Bool, true, false, not}
 use borrow.Author.Tests.{eq-eqb, ne_eqb}
-use Rattle.rules.specs.Words.{if◌then◌else◌}
 use Rattle.rules.specs.Selection.{candidate, settled, reverted, reselected}
 use Rattle.rules.specs.Registers.{settings_from}
 use Rattle.rules.specs.Week.{busy}

@@ -1,11 +1,11 @@
 -- The wait: one that counts for another best, or for none, is a wait of 0 that rises (`by_waited`).
+use Rattle.std.specs.Prelude.{if◌then◌else◌}
 use Prim.Native.Nat.{ℕ, ◌+◌, min}
 use mathlib.Core.Path.{◌≡◌, refl, ap, sym, ◌∙◌}
 use mathlib.Core.Bool.{Bool, ◌&&◌}
 use native.Mathlib.Omega.{arith}
 use lib.Dec.{leb, ltb, eqb}
 use borrow.Author.Tests.{ltb-true, ltb-false, le-leb, lt-leb, eqb-true}
-use Rattle.rules.specs.Words.{if◌then◌else◌}
 use Rattle.rules.specs.Selection.{Choice, wait_limit, wait_after}
 use Rattle.rules.proofs.Tests.{if_case, by_test, or_true, and_false}
 use Rattle.selection.specs.Bridge.{choice_of}

@@ -1,10 +1,8 @@
 -- Each way out has the rule's number: the tests stand in number order.
 use Prim.Native.Nat.{ℕ, ◌+◌, ◌*◌}
 use mathlib.Core.Path.{◌≡◌, ap, sym, ◌∙◌}
-use mathlib.Core.List.{List}
 use native.Mathlib.Omega.{arith}
 use lib.ListN.{length, drop}
-use borrow.Author.Rules.{rules}
 use Rattle.rules.specs.Sheet.{settings_count, events_at, events_count, sheet_end, all_events, record_count}
 use Rattle.sheet.proofs.Numbers.{Sized, too_long, too_many, ends_early, ends_late, has_bad, no_room, will_run}
 use Rattle.rules.proofs.Parts.{part_all}

@@ -1,7 +1,6 @@
 -- The two counts, each where its section starts.
 use Prim.Native.Nat.{ℕ, ◌+◌, ◌*◌}
 use mathlib.Core.Path.{ap, ◌∙◌}
-use borrow.Author.Rules.{rules}
 use Rattle.rules.specs.Sheet.{word16, settings_count, events_at, events_count}
 use Rattle.sheet.proofs.counts_of.Goals as goal
 

@@ -1,7 +1,6 @@
 -- By the half that the word lies in.
 use Prim.Native.Nat.{◌-◌}
 use native.Mathlib.Omega.{arith}
-use borrow.Author.Rules.{rules}
 use mir.Syntax.{w32}
 use Rattle.arith.proofs.Signed.{flip_fits}
 use Rattle.sheet.proofs.Signed.{low, high}

@@ -1,4 +1,5 @@
 -- The five steps in order: what each leaves is what the next begins with.
+use Rattle.std.specs.Prelude.{if◌then◌else◌}
 use Prim.Native.Nat.{◌-◌}
 use mathlib.Core.Bool.{◌&&◌}
 use mathlib.Core.Path.{ap, ◌∙◌}
@@ -12,7 +13,7 @@ use Rattle.rules.specs.Selection.{chosen, steered}
 use Rattle.rules.specs.State.{with_inputs, with_loop, with_choice, with_history, with_holding, with_week}
 use Rattle.rules.specs.Tick.{watched, watched_after, inputs_after, loop_after, week_after, steps1to4, step5, holding_after, ticked}
 use Rattle.rules.specs.Week.{busy}
-use Rattle.rules.specs.Words.{if◌then◌else◌, is_tracked}
+use Rattle.rules.specs.Words.{is_tracked}
 use Rattle.buckets.specs.Bridge.{bucket_at}
 use Rattle.inputs.specs.Bridge.{inputs_of, with_lock_alarms}
 use Rattle.inputs.specs.declared.Monitors.{Monitors}

@@ -1,6 +1,5 @@
 -- Looked up of the registers as they are, or as it was handed on.
 use mathlib.Core.Path.{refl, ap, ◌∙◌}
-use borrow.Author.Rules.{rules}
 use borrow.Author.Tests.{eq-eqb, ne_eqb}
 use Rattle.rules.specs.Settings.{delay_ticks}
 use Rattle.unit.proofs.delay_after.Goals as goal

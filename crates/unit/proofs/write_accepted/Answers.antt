@@ -1,7 +1,7 @@
 -- A command changes the history alone; any other write the settings alone.
+use Rattle.std.specs.Prelude.{if◌then◌else◌}
 use mathlib.Core.Path.{refl, ◌∙◌}
 use borrow.Author.Tests.{eq-eqb, ne_eqb}
-use Rattle.rules.specs.Words.{if◌then◌else◌}
 use Rattle.rules.specs.Registers.{written, settings_from}
 use Rattle.rules.specs.Run.{after_write}
 use Rattle.rules.specs.State.{with_history, with_settings}
