@@ -83,6 +83,8 @@ fn a_file_is_not_overwritten_by_its_own_result() {
     let shown = "# settings (writes on a fresh unit): 0\n\n# events: 2\n2 x hit\n";
     assert_eq!(read(&file), shown.as_bytes());
     assert_eq!(names(&folder), ["hard", "itself.txt", "link"]);
+    // rt ci reads every folder of the checkout, and takes no link.
+    fs::remove_file(path("link")).expect("the link");
 }
 
 /// A limit of a kilobyte on files stands for a disk that is full.
@@ -122,6 +124,7 @@ fn a_replaced_file_keeps_its_permissions_and_its_links() {
     assert_eq!(mode & 0o777, 0o640);
     assert!(fs::symlink_metadata(&link).expect("the link").is_symlink());
     assert_eq!(names(&folder), ["file", "link"]);
+    fs::remove_file(&link).expect("the link");
 }
 
 /// What is no file is written to, and is there afterwards.
