@@ -1,3 +1,4 @@
 -- Laws that several crates' proofs use.
 pub mod Laws
 pub mod Signed
+pub mod Weights
