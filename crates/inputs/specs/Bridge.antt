@@ -1,7 +1,5 @@
 -- From the stored numbers of the inputs to the rules' inputs.
-use Rattle.std.specs.Prelude.{ℕ, Bool, not, List, eqb, get_or}
-use Rattle.std.specs.Borrow.{Bor, MutBor}
-use denote.Triple.Both.{Both}
+use Rattle.std.specs.Prelude.{ℕ, Bool, not, List, eqb, leb, ltb, get_or, if◌then◌else◌}
 use Rattle.rules.specs.Monitors.{Input}
 use Rattle.rules.specs.Inputs.{Inputs}
 use Rattle.buckets.specs.Bridge.{eight}
@@ -10,6 +8,10 @@ use Rattle.inputs.specs.declared.Monitors.{Monitors}
 -- an alarm that is a number: 0 is clear, any other number is set
 abbrev pub is_set : ℕ → Bool
 is_set n = not (eqb n 0)
+
+-- the frequency alarm after a measurement, as a number: the rule's, but for what a set alarm's number is (`frequency_set` in proofs/ByLane)
+abbrev pub frequency_number : ℕ → ℕ → ℕ → ℕ → ℕ
+frequency_number reject limit magnitude frequency = if ltb reject magnitude then 1 else (if leb magnitude limit then 0 else frequency)
 
 -- the input in a lane of the rows: input 1 is in lane 0
 abbrev pub input_at : Monitors → ℕ → Input
@@ -45,40 +47,3 @@ with_lock_alarms m remainder soak = with_alarms m m.frequency remainder soak
 
 abbrev pub with_soak : Monitors → List ℕ → Monitors
 with_soak m soak = with_alarms m m.frequency m.remainder soak
-
--- ---- rows that are lent
-
--- a row of eight numbers that is lent for a change: as it lies when the call begins, and when it returns
-abbrev pub Row : Type 0
-Row = Both (MutBor (List ℕ)) (MutBor (List ℕ))
-
--- one that is lent for reading: as one that is lent for a change, and is left as it was
-abbrev pub read_from : Bor (List ℕ) → MutBor (List ℕ)
-read_from r = record { ref_ptr = r.ref_ptr; ghost_name = 0; now = r.now }
-
-abbrev pub kept : Both (Bor (List ℕ)) (Bor (List ℕ)) → Row
-kept r = record { entry = read_from r.entry; exit = read_from r.exit }
-
--- what a tick is lent of the inputs: five rows for a change, and the frequency alarms for reading; as the call begins
-abbrev pub entering : Row → Row → Row → List ℕ → Row → Row → Monitors
-entering level decay activity frequency remainder soak =
-    record {
-      level = level.entry.now;
-      decay = decay.entry.now;
-      activity = activity.entry.now;
-      frequency = frequency;
-      remainder = remainder.entry.now;
-      soak = soak.entry.now;
-    }
-
--- and as it returns
-abbrev pub leaving : Row → Row → Row → List ℕ → Row → Row → Monitors
-leaving level decay activity frequency remainder soak =
-    record {
-      level = level.exit.now;
-      decay = decay.exit.now;
-      activity = activity.exit.now;
-      frequency = frequency;
-      remainder = remainder.exit.now;
-      soak = soak.exit.now;
-    }

@@ -1,9 +1,0 @@
--- The eight tests are those of the eight inputs, so the masks are the same.
-use Rattle.rules.specs.Monitors.{qualified}
-use Rattle.rules.specs.Reading.{mask_up_to, qualified_mask}
-use Rattle.inputs.specs.Bridge.{inputs_of}
-use Rattle.inputs.proofs.qualified_mask.Goals as goal
-
-pub returns : goal.returns
-unfolding qualified mask_up_to qualified_mask inputs_of
-returns c m = c.mask_of.ensures
