@@ -9,6 +9,7 @@ use native.Mathlib.Omega.{arith}
 use lib.Dec.{eqb, ltb}
 use lib.ListN.{get_or}
 use borrow.Author.Tests.{eqb-true, ltb-true, ltb-false}
+use Rattle.rules.specs.Registers.{settings_from, slot}
 use Rattle.rules.specs.Words.{is_input}
 use Rattle.rules.specs.Monitors.{qualified, full_soak}
 use Rattle.rules.specs.Settings.{Settings, priority, usable, ahead}
@@ -16,7 +17,7 @@ use Rattle.rules.specs.Inputs.{Inputs, input}
 use Rattle.rules.specs.Selection.{available, candidate, best_up_to, best}
 use Rattle.inputs.specs.declared.Monitors.{Monitors}
 use Rattle.buckets.specs.Bridge.{eight}
-use Rattle.inputs.specs.Bridge.{inputs_of, with_soak}
+use Rattle.inputs.specs.Bridge.{inputs_of}
 use Rattle.candidates.specs.Keys.{no_key, settings_key, keys_from, key_of, least_key}
 
 -- ---- the least of nine, halves compared with halves
@@ -51,6 +52,22 @@ halves a b c d e f g h =
   where
     rest : ℕ
     rest = min d (min c (min b a))
+
+-- ---- the register of a candidate
+
+-- Candidate k + 1 has its own, 0x1c + k, in slot k.
+pub own_slot : (regs : List ℕ) (k : ℕ) → k ≤ 8 → settings_from regs (0x1b + (k + 1)) ≡ get_or regs k 0
+unfolding settings_from slot
+own_slot regs zero h = refl
+own_slot regs (suc zero) h = refl
+own_slot regs (suc (suc zero)) h = refl
+own_slot regs (suc (suc (suc zero))) h = refl
+own_slot regs (suc (suc (suc (suc zero)))) h = refl
+own_slot regs (suc (suc (suc (suc (suc zero))))) h = refl
+own_slot regs (suc (suc (suc (suc (suc (suc zero)))))) h = refl
+own_slot regs (suc (suc (suc (suc (suc (suc (suc zero))))))) h = refl
+own_slot regs (suc (suc (suc (suc (suc (suc (suc (suc zero)))))))) h = refl
+own_slot regs (suc (suc (suc (suc (suc (suc (suc (suc (suc k))))))))) h = absurd (omega arith)
 
 -- ---- the best candidate
 
@@ -134,10 +151,10 @@ abbrev pub held_row : List ℕ → List ℕ → List ℕ
 held_row s k = eight (λ j. if eqb (get_or s j 0) full_soak then get_or k j 0 else no_key)
 
 -- the number of the least of them and of Free Run's key
-pub best_held : (set : Settings) (m : Monitors) (s k : List ℕ) → k ≡ keys_from set
-    → least_of (held_row s k) (get_or k 8 0) % 16 ≡ best set (inputs_of (with_soak m s))
+pub best_held : (set : Settings) (m : Monitors) (k : List ℕ) → k ≡ keys_from set
+    → least_of (held_row m.soak k) (get_or k 8 0) % 16 ≡ best set (inputs_of m)
 unfolding keys_from inputs_of qualified
-best_held set m s k e =
-    ap (λ k. least_of (held_row s k) (get_or k 8 0) % 16) e
-    ∙ ap (λ n. n % 16) (sym (least_held set (inputs_of (with_soak m s))))
-    ∙ best_key set (inputs_of (with_soak m s))
+best_held set m k e =
+    ap (λ k. least_of (held_row m.soak k) (get_or k 8 0) % 16) e
+    ∙ ap (λ n. n % 16) (sym (least_held set (inputs_of m)))
+    ∙ best_key set (inputs_of m)

@@ -145,6 +145,8 @@ impl Monitors {
     pub fn qualified_at(&self, c: u32) -> bool
         ensures { result ≡ (is_input c && qualified (input (inputs_of self.now) c)) }
     {
-        is_input(c) && self.soak[c as usize - 1] == FULL_SOAK
+        // on a copy, so that no row of a unit is read at a computed place
+        let soak = self.soak;
+        is_input(c) && soak[c as usize - 1] == FULL_SOAK
     }
 }

@@ -1,13 +1,16 @@
--- The key of a candidate: the bytes, widened, have the same values.
-use Rattle.std.specs.Prelude.{if◌then◌else◌}
-use Prim.Native.Nat.{◌+◌, ◌*◌}
-use mathlib.Core.Path.{◌∙◌}
-use Rattle.candidates.specs.Keys.{no_key}
+-- Candidate k + 1 has its register in slot k (`own_slot`).
+use Rattle.std.proofs.Common.{refl, arith, ◌≡◌, ◌+◌, ◌*◌, ◌%◌, ◌∙◌, sym, ap, if◌then◌else◌, add_assoc}
+use Rattle.rules.specs.Registers.{settings_from}
+use Rattle.rules.specs.Settings.{priority}
+use Rattle.candidates.specs.Keys.{no_key, settings_key}
+use Rattle.candidates.proofs.Keys.{own_slot}
 use Rattle.candidates.proofs.key_of.Goals as goal
 
 pub returns : goal.returns
+unfolding settings_key priority
 returns c =
-    let a = c.args in
-    let priority = c.wide16.ensures.0 in
-    let number = c.wide16-2.ensures.0 in
-    c.either.ensures ∙ (λ j. if a.usable then priority j * 16 + number j else no_key)
+    let k = c.args.k in
+    let set = settings_from c.args.regs.now in
+    let byte = c.from.ensures ∙ ap (λ n. n % 8) (sym (own_slot c.args.regs.now k c.requires)) in
+    let key = add_assoc (c.from.result * 16) k 1 ∙ ap (λ n. n * 16 + (k + 1)) byte in
+    c.either.ensures ∙ (λ i. if c.is_usable.ensures i then key i else no_key)
