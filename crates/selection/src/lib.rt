@@ -1,25 +1,21 @@
-// Selection (document 01, step 4, and the busy hours of document 02, #107): the wait, and the choice of a tick. The registers, the inputs' soaks, the
-// candidates' keys and the windows are lent for reading, and the contracts hold whatever else the inputs are. The settings are `settings_from` of the
-// registers.
+// Selection (document 01, step 4, and the busy hours of document 02, #107): the wait, and the choice of a tick. The registers, the inputs' rows and the windows
+// are lent for reading, and so is what follows from the registers and is made after a write. The settings are `settings_from` of the registers.
 #![tactic(auto)]
 
-ghost use Rattle.std.specs.Prelude.{◌≡◌, ◌-◌, ◌≤◌, eqb, if◌then◌else◌};
+ghost use Rattle.std.specs.Prelude.{◌≡◌, ◌≤◌, eqb, if◌then◌else◌};
 ghost use Rattle.rules.specs.Settings.{delay_ticks, reversion};
 ghost use Rattle.rules.specs.Week.{busy};
 ghost use Rattle.rules.specs.Selection as selection;
 ghost use Rattle.rules.specs.Selection.{wait_after};
 ghost use Rattle.rules.specs.Registers.{settings_from};
-ghost use Rattle.inputs.specs.Bridge.{inputs_of, with_soak};
-ghost use Rattle.inputs.specs.declared.Monitors as stored;
+ghost use Rattle.inputs.specs.Bridge.{inputs_of};
 ghost use Rattle.week.specs.Bridge.{windows_of};
 ghost use Rattle.selection.specs.Bridge.{choice_of, Follows};
 
-use arith::{both, wide32};
-use buckets::Row;
-use candidates::{Keys, best_of, is_candidate};
-use inputs::qualified_at;
+use candidates::{Keys, best_of, is_candidate, keys_of};
+use inputs::Monitors;
 use registers::{Registers, is_automatic, is_revertive, setting};
-use waits::delay_ticks;
+use waits::{delay_floor, delay_ticks};
 use week::{Windows, is_busy};
 
 // Two ticks more than the longest delay: the wait stops here.
@@ -34,10 +30,29 @@ pub struct Choice {
     pub awaited: u32,
 }
 
+// What follows from the registers alone: the candidates' keys, and a floor of the delay. It is made after a write and handed to the ticks.
+#[derive(Clone, Copy)]
+pub struct Handed {
+    pub keys: Keys,
+    pub floor: u32,
+}
+
+// What a tick is handed where these are the registers.
+// Not: keys of 0; the delay of a minute more.
+pub fn handed_by(regs: &Registers) -> Handed
+    ensures { Follows (settings_from regs.now) result.keys result.floor }
+{
+    Handed {
+        keys: keys_of(regs),
+        floor: delay_floor(setting(regs, 0x43)),
+    }
+}
+
 // ---- the wait
 
 // The rule `settled`: selected, with the wait at 0.
 // Not: none selected; a wait of 1.
+#[tactic(auto, unfolding(rules::specs::Selection::settled))]
 pub fn settled(c: u32) -> Choice
     ensures { choice_of result ≡ selection.settled c }
 {
@@ -61,7 +76,8 @@ fn wait_after(blocked: bool, n: u32, b: u32, c: Choice) -> u32
 {
     let so_far = waited(b, c);
     if so_far < WAIT_LIMIT {
-        if both(blocked, n < so_far) {
+        let stays = blocked & (n < so_far);
+        if stays {
             return so_far;
         }
         return so_far + 1;
@@ -69,18 +85,12 @@ fn wait_after(blocked: bool, n: u32, b: u32, c: Choice) -> u32
     WAIT_LIMIT
 }
 
-// One less, not below 0.
-fn less_one(n: u32) -> u32
-    ensures { result ≡ n - 1 }
-{
-    if n == 0 { 0 } else { n - 1 }
-}
-
 // The rule `switches`: the wait is over.
+#[tactic(auto, unfolding(rules::specs::Selection::switches))]
 fn switches(n: u32, wait: u32) -> bool
     ensures { result ≡ selection.switches n wait }
 {
-    n <= less_one(wait)
+    n <= wait.saturating_sub(1)
 }
 
 // The selected one stays, with this wait for `b`.
@@ -88,25 +98,26 @@ fn waiting(wait: u32, b: u32, c: Choice) -> Choice
     ensures { choice_of result ≡ record { selected = c.selected; wait = wait; awaited = b } }
 {
     Choice {
-        wait: wait,
-        selected: c.selected,
+        wait,
         awaited: b,
+        ..c
     }
 }
 
 // The rule `reverted`: the reversion to `b`, with a delay of so many minutes, of which a floor was handed on. A wait that is not over by the floor is not over,
 // and rises in a window as outside: table and windows are looked at only where it is.
-fn reverted(windows: &Windows, place: u32, handed: u32, minutes: u8, b: u32, c: Choice) -> Choice
-    ensures { handed ≤ delay_ticks minutes → choice_of result ≡ selection.reverted (busy (windows_of windows.now) place) (delay_ticks minutes) b (choice_of c) }
+fn reverted(windows: &Windows, place: u32, floor: u32, minutes: u8, b: u32, c: Choice) -> Choice
+    ensures { floor ≤ delay_ticks minutes → choice_of result ≡ selection.reverted (busy (windows_of windows.now) place) (delay_ticks minutes) b (choice_of c) }
 {
-    let risen = wait_after(false, handed, b, c);
-    if !switches(handed, risen) {
+    let risen = wait_after(false, floor, b, c);
+    if !switches(floor, risen) {
         return waiting(risen, b, c);
     }
     let n = delay_ticks(minutes);
     let blocked = is_busy(windows, place);
     let wait = wait_after(blocked, n, b, c);
-    if both(!blocked, switches(n, wait)) {
+    let over = !blocked & switches(n, wait);
+    if over {
         return settled(b);
     }
     waiting(wait, b, c)
@@ -117,24 +128,24 @@ fn reverted(windows: &Windows, place: u32, handed: u32, minutes: u8, b: u32, c: 
 // The rule `reselected`: automatic control, `b` being the best candidate. Where that is selected, it stays or is chosen, which is the same; the test comes
 // first, where the best is made, so that the compiler can make it of eight lanes side by side.
 fn reselected(
-    soak: &Row,
+    m: &Monitors,
     regs: &Registers,
-    handed: u32,
+    floor: u32,
     windows: &Windows,
     place: u32,
     b: u32,
     c: Choice,
 ) -> Choice
-    ensures { (m : stored.Monitors) → handed ≤ reversion (settings_from regs.now) → choice_of result ≡ selection.reselected (busy (windows_of windows.now) place) (settings_from regs.now) (inputs_of (with_soak m soak.now)) b (choice_of c) }
+    ensures { floor ≤ reversion (settings_from regs.now) → choice_of result ≡ selection.reselected (busy (windows_of windows.now) place) (settings_from regs.now) (inputs_of m.now) b (choice_of c) }
 {
     if c.selected == b {
         return settled(b);
     }
-    let stands = is_candidate(soak, regs, c.selected);
+    let stands = is_candidate(m, regs, c.selected);
     if stands {
         let reverts = is_revertive(regs, c.selected);
         if reverts {
-            return reverted(windows, place, handed, setting(regs, 0x43), b, c);
+            return reverted(windows, place, floor, setting(regs, 0x43), b, c);
         }
         return settled(c.selected);
     }
@@ -142,33 +153,34 @@ fn reselected(
 }
 
 // The rule `manual`.
-fn manual(soak: &Row, regs: &Registers) -> Choice
-    ensures { (m : stored.Monitors) → choice_of result ≡ selection.manual (settings_from regs.now) (inputs_of (with_soak m soak.now)) }
+#[tactic(auto, unfolding(rules::specs::Selection::manual))]
+fn manual(m: &Monitors, regs: &Registers) -> Choice
+    ensures { choice_of result ≡ selection.manual (settings_from regs.now) (inputs_of m.now) }
 {
-    let s = wide32(setting(regs, 0x41));
-    let good = qualified_at(soak, s);
+    let s = u32::from(setting(regs, 0x41));
+    let good = m.qualified_at(s);
     if good {
         return settled(s);
     }
     settled(0)
 }
 
-// The rule `chosen`: the choice of a tick at a place, where the keys and the floor of the delay follow from the registers.
+// The rule `chosen`: the choice of a tick at a place, where what is handed follows from the registers.
 // Not: manual control heeds the mask; a window blocks the switch off a lost reference; the wait stands still in a window.
+#[tactic(auto, unfolding(rules::specs::Selection::chosen))]
 pub fn chosen(
-    soak: &Row,
+    m: &Monitors,
     regs: &Registers,
-    keys: &Keys,
-    handed: u32,
+    h: &Handed,
     windows: &Windows,
     place: u32,
     c: Choice,
 ) -> Choice
-    ensures { (m : stored.Monitors) → Follows (settings_from regs.now) keys.now handed → choice_of result ≡ selection.chosen (busy (windows_of windows.now) place) (settings_from regs.now) (inputs_of (with_soak m soak.now)) (choice_of c) }
+    ensures { Follows (settings_from regs.now) h.now.keys h.now.floor → choice_of result ≡ selection.chosen (busy (windows_of windows.now) place) (settings_from regs.now) (inputs_of m.now) (choice_of c) }
 {
     let auto = is_automatic(regs);
     if auto {
-        return reselected(soak, regs, handed, windows, place, best_of(soak, keys), c);
+        return reselected(m, regs, h.floor, windows, place, best_of(m, &h.keys), c);
     }
-    manual(soak, regs)
+    manual(m, regs)
 }

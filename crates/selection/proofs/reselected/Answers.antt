@@ -1,15 +1,12 @@
 -- The automatic choice: an arm of the rule for each return.
-use Rattle.std.specs.Prelude.{if◌then◌else◌}
-use Prim.Native.Nat.{ℕ}
-use mathlib.Core.Path.{◌≡◌, refl, ap, sym, ◌∙◌}
-use mathlib.Core.Bool.{Bool, true, false, not}
+use Rattle.std.proofs.Common.{refl, ℕ, ◌≡◌, Bool, true, false, not, if◌then◌else◌, ap, sym, ◌∙◌}
 use borrow.Author.Tests.{eq-eqb, ne_eqb}
 use Rattle.rules.specs.Selection.{candidate, settled, reverted, reselected}
 use Rattle.rules.specs.Registers.{settings_from}
 use Rattle.rules.specs.Week.{busy}
 use Rattle.week.specs.Bridge.{windows_of}
 use Rattle.rules.specs.Settings.{revertive, delay_ticks}
-use Rattle.inputs.specs.Bridge.{inputs_of, with_soak}
+use Rattle.inputs.specs.Bridge.{inputs_of}
 use Rattle.selection.specs.Bridge.{choice_of}
 use Rattle.selection.proofs.reselected.Goals as goal
 
@@ -20,29 +17,29 @@ alike false p = refl
 
 pub returns-then-c-b : goal.returns-then-c-b
 unfolding reselected
-returns-then-c-b c m d =
+returns-then-c-b c d =
     let a = c.args in
-    let stands = candidate (settings_from a.regs.now) (inputs_of (with_soak m a.soak.now)) a.c.selected in
+    let stands = candidate (settings_from a.regs.now) (inputs_of a.m.now) a.c.selected in
     rw (eq-eqb _ _ c.if-c-b.true) (c.settled.ensures ∙ alike stands (ap settled c.if-c-b.true))
 
 pub returns-then-reverts : goal.returns-then-reverts
 unfolding reselected
-returns-then-reverts c m d =
+returns-then-reverts c d =
     let a = c.args in
     let reverts : revertive (settings_from a.regs.now) a.c.selected ≡ true = sym c.is_revertive-reverts.ensures ∙ c.if-reverts.true in
     let minutes = c.setting.ensures in
-    rw (← c.is_candidate-stands.ensures m, c.if-stands.true, ne_eqb _ _ c.if-c-b.false, reverts)
+    rw (← c.is_candidate-stands.ensures, c.if-stands.true, ne_eqb _ _ c.if-c-b.false, reverts)
     (c.reverted.ensures (rw minutes d)
     ∙ ap (λ (k : ℕ). reverted (busy (windows_of a.windows.now) a.place) (delay_ticks k) a.b (choice_of a.c)) minutes)
 
 pub returns-then-stands : goal.returns-then-stands
 unfolding reselected
-returns-then-stands c m d =
+returns-then-stands c d =
     let a = c.args in
     let stays : revertive (settings_from a.regs.now) a.c.selected ≡ false = sym c.is_revertive-reverts.ensures ∙ c.if-reverts.false in
-    rw (← c.is_candidate-stands.ensures m, c.if-stands.true, ne_eqb _ _ c.if-c-b.false, stays)
+    rw (← c.is_candidate-stands.ensures, c.if-stands.true, ne_eqb _ _ c.if-c-b.false, stays)
     c.settled-then-stands.ensures
 
 pub returns : goal.returns
 unfolding reselected
-returns c m d = rw (← c.is_candidate-stands.ensures m, c.if-stands.false) c.settled-2.ensures
+returns c d = rw (← c.is_candidate-stands.ensures, c.if-stands.false) c.settled-2.ensures

@@ -1,9 +1,6 @@
 -- The reversion. A wait that is not over by the floor is not over by the delay: it goes on, in a window or not. Otherwise the code is the rule, with the delay
 -- that is looked up.
-use Prim.Native.Nat.{ℕ, ◌-◌, ◌≤◌}
-use mathlib.Core.Path.{◌≡◌, refl, ap, sym, ◌∙◌}
-use mathlib.Core.Bool.{Bool, false, not, ◌&&◌}
-use native.Mathlib.Omega.{arith}
+use Rattle.std.proofs.Common.{refl, arith, ℕ, ◌≡◌, ◌≤◌, ◌-◌, Bool, false, not, ◌&&◌, ap, sym, ◌∙◌, List}
 use borrow.Author.Tests.{leb-false, lt-leb}
 use Rattle.rules.specs.Settings.{delay_ticks}
 use Rattle.rules.specs.Selection.{Choice, wait_after, switches, reverted}
@@ -12,7 +9,6 @@ use Rattle.rules.proofs.BusyHours.{not_over}
 use Rattle.week.specs.Bridge.{windows_of}
 use Rattle.selection.specs.Bridge.{choice_of}
 use Rattle.selection.proofs.reverted.Goals as goal
-use Rattle.selection.proofs.reverted.Goals.{After-both, After-wait_after-wait, Start}
 
 -- a longer delay is not over where a shorter one is not
 nor_longer : (m n wait : ℕ) → m ≤ n → switches m wait ≡ false → switches n wait ≡ false
@@ -24,57 +20,36 @@ any_delay : (m n b : ℕ) (c : Choice) → wait_after false m b c ≡ wait_after
 unfolding wait_after
 any_delay m n b c = refl
 
--- the delay, and whether a window blocks the switch
-abbrev delayed : Start → ℕ
-delayed c = delay_ticks c.args.minutes
-
-abbrev blocked : Start → Bool
-blocked c = busy (windows_of c.args.windows.now) c.args.place
-
--- the wait, with the delay that is looked up
-wait_is : (c : After-wait_after-wait)
-    → let start = c.before.before.before.before.before.before in
-    let a = start.args in
-    c.wait_after-wait.result ≡ wait_after (blocked start) (delayed start) a.b (choice_of a.c)
-wait_is c =
-    let found = c.before in
-    let a = found.args in
-    c.wait_after-wait.ensures ∙ (λ i. wait_after (found.is_busy-blocked.ensures i) (found.delay_ticks-n.ensures i) a.b (choice_of a.c))
-
--- whether the switch comes
-switch_is : (c : After-both)
-    → let start = c.before.before.before.before.before.before.before.before in
-    let a = start.args in
-    let n = delayed start in
-    c.both.result ≡ (not (blocked start) && switches n (wait_after (blocked start) n a.b (choice_of a.c)))
-switch_is c =
-    let waited = c.before.before in
-    let found = waited.before in
-    c.both.ensures
-    ∙ (λ i. not (found.is_busy-blocked.ensures i) && c.switches-2.ensures i)
-    ∙ (λ i. not (blocked found.before.before.before.before.before) && switches (found.delay_ticks-n.ensures i) (wait_is waited i))
+-- the delay that is looked up, whether a window blocks, the wait by both, and whether the switch comes
+switch_is : (windows : List ℕ) (place minutes b : ℕ) (c : Choice) {n w : ℕ} {blocked over : Bool}
+    → let busy = busy (windows_of windows) place in
+    n ≡ delay_ticks minutes → blocked ≡ busy → w ≡ wait_after blocked n b c → over ≡ switches n w
+    → (w ≡ wait_after busy (delay_ticks minutes) b c)
+    × ((not blocked && over) ≡ (not busy && switches (delay_ticks minutes) (wait_after busy (delay_ticks minutes) b c)))
+switch_is windows place minutes b c delay block wait test =
+    let waited = wait ∙ (λ i. wait_after (block i) (delay i) b c) in
+    (waited, (λ i. not (block i) && test i) ∙ (λ i. not (busy (windows_of windows) place) && switches (delay i) (waited i)))
 
 pub returns-then-not-switches : goal.returns-then-not-switches
 returns-then-not-switches c below =
-    let tested = c.before.before in
-    let known = tested.before in
-    let start = known.before in
-    let a = start.args in
-    let risen = known.wait_after-risen.ensures ∙ any_delay a.handed (delayed start) a.b (choice_of a.c) in
-    let goes_on = sym (tested.switches.ensures ∙ ap (switches a.handed) risen) ∙ c.if-not-switches.true in
+    let a = c.args in
+    let n = delay_ticks a.minutes in
+    let risen = c.wait_after-risen.ensures ∙ any_delay a.floor n a.b (choice_of a.c) in
+    let goes_on = sym (c.switches.ensures ∙ ap (switches a.floor) risen) ∙ c.if-not-switches.true in
     c.waiting.ensures
     ∙ (λ i. record { selected = a.c.selected; wait = risen i; awaited = a.b })
-    ∙ sym (not_over (delayed start) a.b (choice_of a.c) (blocked start) (nor_longer a.handed (delayed start) _ below goes_on))
+    ∙ sym (not_over n a.b (choice_of a.c) (busy (windows_of a.windows.now) a.place) (nor_longer a.floor n _ below goes_on))
 
-pub returns-then-both : goal.returns-then-both
+pub returns-then-over : goal.returns-then-over
 unfolding reverted
-returns-then-both c below = rw (sym (switch_is c.before.before) ∙ c.if-both.true) c.settled.ensures
+returns-then-over c below =
+    let a = c.args in
+    let (waited, tested) = switch_is a.windows.now a.place a.minutes a.b (choice_of a.c) c.delay_ticks-n.ensures c.is_busy-blocked.ensures c.wait_after-wait.ensures c.switches-2.ensures in
+    rw (sym tested ∙ c.if-over.true) c.settled.ensures
 
 pub returns : goal.returns
 unfolding reverted
 returns c below =
-    let tested = c.before.before in
-    let waited = tested.before.before in
-    let a = waited.args in
-    rw (sym (switch_is tested) ∙ c.if-both.false)
-    (c.waiting-2.ensures ∙ (λ i. record { selected = a.c.selected; wait = wait_is waited i; awaited = a.b }))
+    let a = c.args in
+    let (waited, tested) = switch_is a.windows.now a.place a.minutes a.b (choice_of a.c) c.delay_ticks-n.ensures c.is_busy-blocked.ensures c.wait_after-wait.ensures c.switches-2.ensures in
+    rw (sym tested ∙ c.if-over.false) (c.waiting-2.ensures ∙ (λ i. record { selected = a.c.selected; wait = waited i; awaited = a.b }))

@@ -1,16 +1,10 @@
 -- The wait: one that counts for another best, or for none, is a wait of 0 that rises (`by_waited`).
-use Rattle.std.specs.Prelude.{if◌then◌else◌}
-use Prim.Native.Nat.{ℕ, ◌+◌, min}
-use mathlib.Core.Path.{◌≡◌, refl, ap, sym, ◌∙◌}
-use mathlib.Core.Bool.{Bool, ◌&&◌}
-use native.Mathlib.Omega.{arith}
-use lib.Dec.{leb, ltb, eqb}
+use Rattle.std.proofs.Common.{refl, arith, ℕ, ◌≡◌, ◌+◌, min, Bool, ◌&&◌, if◌then◌else◌, ap, sym, ◌∙◌, eqb, ltb, leb}
 use borrow.Author.Tests.{ltb-true, ltb-false, le-leb, lt-leb, eqb-true}
 use Rattle.rules.specs.Selection.{Choice, wait_limit, wait_after}
 use Rattle.rules.proofs.Tests.{if_case, by_test, or_true, and_false}
 use Rattle.selection.specs.Bridge.{choice_of}
 use Rattle.selection.proofs.wait_after.Goals as goal
-use Rattle.selection.proofs.wait_after.Goals.{After-both, After-waited-so_far}
 
 -- the wait with a tick, of one that stands at w
 abbrev risen : Bool → ℕ → ℕ → ℕ
@@ -36,35 +30,26 @@ above : (n w : ℕ) → leb (n + 1) w ≡ ltb n w
 above n w =
     by_test (ltb n w) (λ e. le-leb (n + 1) w (omega (arith, ltb-true n w e)) ∙ sym e) (λ e. lt-leb (n + 1) w (omega (arith, ltb-false n w e)) ∙ sym e)
 
--- the rule, by what the code has waited
-rule : (c : After-waited-so_far) → let a = c.args in wait_after a.blocked a.n a.b (choice_of a.c) ≡ risen a.blocked a.n c.waited-so_far.result
-rule c = let a = c.args in by_waited a.blocked a.n a.b (choice_of a.c) ∙ ap (risen a.blocked a.n) (sym c.waited-so_far.ensures)
+-- the rule, by what the code has waited and tested
+rule : (blocked : Bool) (n b w : ℕ) (c : Choice) {t : Bool} → w ≡ (if eqb c.awaited b then c.wait else 0) → (blocked && ltb n w) ≡ t
+    → wait_after blocked n b c ≡ min wait_limit (if t then w else w + 1)
+rule blocked n b w c e t =
+    by_waited blocked n b c ∙ ap (risen blocked n) (sym e) ∙ (λ i. min wait_limit (if blocked && above n w i then w else w + 1))
+    ∙ (λ i. min wait_limit (if t i then w else w + 1))
 
--- the test of the code is that of the rule
-tested : (c : After-both)
-    → let a = c.args in
-    (a.blocked && leb (a.n + 1) c.waited-so_far.result) ≡ c.both.result
-tested c =
-    let a = c.args in
-    ap (λ (t : Bool). a.blocked && t) (above a.n c.waited-so_far.result) ∙ sym c.both.ensures
-
-pub returns-then-both : goal.returns-then-both
-returns-then-both c =
-    let known = c.before.before.before in
-    let w = known.waited-so_far.result in
-    let stays : min wait_limit w ≡ w = omega (arith, c.if-so_far-lt-WAIT_LIMIT.true) in
-    sym (rule known ∙ rw (tested c.before, c.if-both.true) stays)
+pub returns-then-stays : goal.returns-then-stays
+returns-then-stays c =
+    let stays : min wait_limit c.waited-so_far.result ≡ c.waited-so_far.result = omega (arith, c.if-so_far-lt-WAIT_LIMIT.true) in
+    sym (rule c.args.blocked c.args.n c.args.b _ (choice_of c.args.c) c.waited-so_far.ensures c.if-stays.true ∙ stays)
 
 pub returns-then-so_far-lt-WAIT_LIMIT : goal.returns-then-so_far-lt-WAIT_LIMIT
 returns-then-so_far-lt-WAIT_LIMIT c =
-    let known = c.before.before.before in
-    let w = known.waited-so_far.result in
-    let rises : min wait_limit (w + 1) ≡ w + 1 = omega (arith, c.if-so_far-lt-WAIT_LIMIT.true) in
-    sym (rule known ∙ rw (tested c.before, c.if-both.false) rises)
+    let rises : min wait_limit (c.waited-so_far.result + 1) ≡ c.waited-so_far.result + 1 = omega (arith, c.if-so_far-lt-WAIT_LIMIT.true) in
+    sym (rule c.args.blocked c.args.n c.args.b _ (choice_of c.args.c) c.waited-so_far.ensures c.if-stays.false ∙ rises)
 
 pub returns : goal.returns
 returns c =
-    let known = c.before in
-    let a = known.args in
-    let w = known.waited-so_far.result in
-    sym (rule known ∙ if_case (λ m. min wait_limit m ≡ wait_limit) (a.blocked && leb (a.n + 1) w) (λ _. omega (arith, c.if-so_far-lt-WAIT_LIMIT.false)) (λ _. omega (arith, c.if-so_far-lt-WAIT_LIMIT.false)))
+    let a = c.args in
+    let w = c.waited-so_far.result in
+    sym (rule a.blocked a.n a.b w (choice_of a.c) c.waited-so_far.ensures refl
+    ∙ if_case (λ m. min wait_limit m ≡ wait_limit) (a.blocked && ltb a.n w) (λ _. omega (arith, c.if-so_far-lt-WAIT_LIMIT.false)) (λ _. omega (arith, c.if-so_far-lt-WAIT_LIMIT.false)))
