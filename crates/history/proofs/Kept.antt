@@ -1,34 +1,13 @@
 -- Block sums, as the arrays hold them.
-use Prim.Native.Nat.{ℕ, zero, suc, ◌+◌, ◌-◌, ◌*◌, ◌≤◌, ◌<◌, min}
-use mathlib.Core.Path.{◌≡◌, refl, ap, sym, ◌∙◌}
-use mathlib.Core.Bool.{true, not}
-use mathlib.Core.List.{List, [], ◌∷◌, ◌++◌}
-use native.Mathlib.Numerals.{add-one, unary_clauses}
-use native.Mathlib.Omega.{arith}
-use lib.Dec.{leb, eqb, eqb-suc-zero}
+use Rattle.std.proofs.Common.{arith, ◌≡◌, ◌+◌, ◌-◌, ◌*◌, ◌≤◌, min, ℕ, zero, suc, List, [], ◌∷◌, length, take, get_or, refl, ap, sym, ◌∙◌}
+use native.Mathlib.Numerals.{unary_clauses}
+use lib.Dec.{leb}
 use lib.IntN.{ℤ, pos, nat_abs, ◌+ℤ◌, +ℤ_idl, +ℤ_idr, +ℤ_assoc}
-use lib.ListN.{length, take, get_or, set}
-use lib.Seq.{take-suc, take-suc-set}
-use borrow.Author.Tests.{leb-true, leb-false, le-leb, lt-leb}
-use Rattle.rules.specs.History.{held, sum_limit, saturated, sum_of}
+use Rattle.rules.specs.History.{sum_limit, saturated, sum_of}
 use Rattle.rules.proofs.Integers.{natAbs-+, saturated_le}
-use Rattle.rules.proofs.Tests.{by_test}
 use Rattle.history.specs.Bridge.{first_sums, kept_of, pushed}
 
 -- ---- pushing a sum
-
--- a turn of the shift: one place more is filled
-pub shift_more : (x d : ℤ) (sums r : List ℤ) (i : ℕ) → 1 ≤ i → i < 64 → length sums ≡ 64 → length r ≡ 64 → take i r ≡ x ∷ take (i - 1) sums
-    → take (i + 1) (set r i (get_or sums (i - 1) d)) ≡ x ∷ take (i + 1 - 1) sums
-shift_more x d sums r i lo hi ls lr e =
-    ap (λ (n : ℕ). take n (set r i v)) (add-one i) ∙ take-suc-set r i v (omega arith) ∙ ap (λ (l : List ℤ). l ++ (v ∷ [])) e
-    ∙ ap (λ (l : List ℤ). x ∷ l) (sym (take-suc sums (i - 1) d (omega arith)) ∙ ap (λ (n : ℕ). take n sums) places)
-  where
-    v : ℤ
-    v = get_or sums (i - 1) d
-
-    places : suc (i - 1) ≡ i + 1 - 1
-    places = omega arith
 
 -- of the first k, the first m are the first m
 first_take : (m k : ℕ) (l : List ℤ) → m ≤ k → first_sums m (take k l) ≡ first_sums m l
@@ -49,14 +28,11 @@ take_first (suc m) (suc n) (x ∷ l) = simp unary_clauses (ap (λ (t : List ℤ)
 pub kept_push : (x : ℤ) (sums : List ℤ) (count more : ℕ) → more ≡ min 64 (count + 1) → kept_of (pushed x sums) more ≡ take 64 (saturated x ∷ kept_of sums count)
 unfolding first_sums
 kept_push x sums count more e =
-    ap (λ (n : ℕ). first_sums n (pushed x sums)) up
-    ∙ ap (λ (l : List ℤ). saturated x ∷ l) (first_take (min 63 count) 63 sums (omega arith) ∙ ap (λ (n : ℕ). first_sums n sums) most ∙ sym (take_first 63 (min count 64) sums))
-  where
-    up : min more 64 ≡ suc (min 63 count)
-    up = omega arith
-
-    most : min 63 count ≡ min 63 (min count 64)
-    most = omega arith
+    let up : min more 64 ≡ suc (min 63 count) = omega arith in
+    let most : min 63 count ≡ min 63 (min count 64) = omega arith in
+    let first : first_sums (min 63 count) (take 63 sums) ≡ first_sums (min 63 count) sums = first_take (min 63 count) 63 sums (omega arith) in
+    let few : take 63 (first_sums (min count 64) sums) ≡ first_sums (min 63 (min count 64)) sums = take_first 63 (min count 64) sums in
+    rw up cc
 
 -- ---- how many are kept
 
@@ -71,23 +47,7 @@ pub kept_length : (sums : List ℤ) (count : ℕ) → length (kept_of sums count
 kept_length sums count = first_length (min count 64) sums
 
 pub ready_kept : (sums : List ℤ) (count : ℕ) → leb 43 count ≡ leb 43 (length (kept_of sums count))
-ready_kept sums count =
-    by_test (leb 43 count)
-    (λ e. e ∙ sym (le-leb 43 (length (kept_of sums count)) (omega (arith, kept_length sums count, leb-true 43 count e))))
-    (λ e. e ∙ sym (lt-leb 43 (length (kept_of sums count)) (omega (arith, kept_length sums count, leb-false 43 count e))))
-
-held_first : (n : ℕ) (l : List ℤ) → true ≡ held (first_sums (suc n) l)
-unfolding held first_sums
-held_first n [] = refl
-held_first n (x ∷ l) = refl
-
-pub held_kept : (sums : List ℤ) (count : ℕ) → not (eqb count 0) ≡ held (kept_of sums count)
-unfolding held first_sums
-held_kept sums zero = refl
-held_kept sums (suc n) = ap not (eqb-suc-zero n) ∙ held_first (min n 63) sums ∙ ap (λ (k : ℕ). held (first_sums k sums)) up
-  where
-    up : suc (min n 63) ≡ min (suc n) 64
-    up = omega arith
+ready_kept sums count = grind (arith, kept_length sums count)
 
 -- ---- their sum
 

@@ -1,8 +1,8 @@
 -- From the code's tally and sums to the rules' history.
-use Rattle.std.specs.Prelude.{ℕ, zero, suc, min, ◌≡◌, false, not, List, [], ◌∷◌, eqb, ℤ, pos, take, if◌then◌else◌}
-use Rattle.rules.specs.History.{History, saturated, completed}
+use Rattle.std.specs.Prelude.{ℕ, zero, suc, min, ◌≡◌, not, List, [], ◌∷◌, eqb, ℤ, pos, take}
+use Rattle.rules.specs.History.{History, saturated}
+use Rattle.history.specs.declared.History as code
 use Rattle.history.specs.declared.Tally.{Tally}
-use Rattle.history.specs.declared.Update.{Update}
 
 -- The first so many of the stored sums; one that is not there counts as 0. A sum past ±16,000,000,000, which no history makes, is read as that bound.
 unfoldable pub first_sums : ℕ → List ℤ → List ℤ
@@ -28,6 +28,10 @@ history_of t sums building backup =
       backup = kept_of backup t.backed;
     }
 
+-- the same, with the sums as they are stored
+abbrev pub kept_in : Tally → code.History → History
+kept_in t h = history_of t h.sums h.building h.backup
+
 -- the 64 sums with a new one first
 abbrev pub pushed : ℤ → List ℤ → List ℤ
 pushed x sums = x ∷ take 63 sums
@@ -35,12 +39,3 @@ pushed x sums = x ∷ take 63 sums
 -- From tally t to tally r is the rule's step, whatever the sums are; they stay.
 abbrev pub Steps : Tally → Tally → (History → History) → Type 0
 Steps t r rule = (sums building backup : List ℤ) → history_of r sums building backup ≡ rule (history_of t sums building backup)
-
--- the history after an update: a block that is done joins the history that fills
-abbrev pub after_update : Update → History → History
-after_update u h = if u.done then completed (saturated u.sum) h else h
-
--- From tally t to update u is the rule's step, whatever the sums are; where no block is done, there is no sum.
-pub record Updates (t : Tally) (u : Update) (rule : History → History) : Type 0 where
-  pub step : (sums building backup : List ℤ) → after_update u (history_of u.tally sums building backup) ≡ rule (history_of t sums building backup)
-  pub none : u.done ≡ false → u.sum ≡ pos 0

@@ -3,16 +3,16 @@
 // Each contract is an equation with a rule of crates/rules/specs/History.antt through specs/Bridge.antt; the rule is named above the function.
 #![tactic(auto)]
 
-ghost use Rattle.std.specs.Prelude.{◌≡◌, List, ◌+◌, min, ℤ, ◌+ℤ◌};
+ghost use Rattle.std.specs.Prelude.{◌≡◌, List, ℤ, ◌+ℤ◌};
 ghost use Rattle.rules.specs.History as rules;
 ghost use Rattle.rules.specs.History.{ready, held, saturated, open_emptied, sampled, starts_building, noted, recorded, replaced, fresh_history};
-ghost use Rattle.history.specs.Bridge.{kept_of, history_of, pushed, Steps, Updates};
+ghost use Rattle.history.specs.Bridge.{kept_of, history_of, kept_in, pushed, Steps};
 
-use arith::is_counted;
+use arith::is_input;
 
 // What a tick changes of the history.
 #[repr(C)]
-#[derive(Clone, Copy)]
+#[derive(Clone, Copy, Default)]
 pub struct Tally {
     // The open block: its sum, and how many samples it has.
     pub open: i64,
@@ -40,32 +40,20 @@ pub struct History {
     pub backup: Sums,
 }
 
-// What step 5 gives of the tally: the tally, whether a block is done, and if so its sum, which is to join the history that fills.
-#[derive(Clone, Copy)]
-struct Update {
-    tally: Tally,
-    done: bool,
-    sum: i64,
-}
-
 // ---- step 5
 
 // `saturated`: a sum past ±16,000,000,000 counts as that bound.
 // Not: a bound one short; no bound.
+#[tactic(auto, unfolding(rules::specs::History::saturated))]
 pub fn within(z: i64) -> i64
     ensures { result ≡ saturated z }
 {
-    if z < -16_000_000_000 {
-        return -16_000_000_000;
-    }
-    if 16_000_000_000 < z {
-        return 16_000_000_000;
-    }
-    z
+    z.clamp(-16_000_000_000, 16_000_000_000)
 }
 
 // `ready`: 43 blocks or more are in use.
 // Not: Ready at 42 blocks.
+#[tactic(auto, using(crate::proofs::Kept::ready_kept), unfolding(rules::specs::History::ready))]
 pub fn is_ready(t: Tally) -> bool
     ensures { (sums building backup : List ℤ) → result ≡ ready (history_of t sums building backup) }
 {
@@ -74,6 +62,7 @@ pub fn is_ready(t: Tally) -> bool
 
 // `held`: the backup is not empty.
 // Not: held with no block; never held.
+#[tactic(auto, unfolding(rules::specs::History::held, crate::specs::Bridge::first_sums))]
 pub fn holds_backup(t: Tally) -> bool
     ensures { (sums building backup : List ℤ) → result ≡ held (history_of t sums building backup).backup }
 {
@@ -82,173 +71,132 @@ pub fn holds_backup(t: Tally) -> bool
 
 // The open block's sum with one sample more: clamped, added and clamped again, so that nothing overflows. A sum so far from its bounds that no sample leads
 // over them is added to at once.
+#[tactic(auto, unfolding(rules::specs::History::saturated))]
 fn summed(sum: i64, x: i32) -> i64
     ensures { result ≡ saturated (saturated sum +ℤ x) }
 {
-    if -13_000_000_000 < sum {
-        if sum < 13_000_000_000 {
-            return sum + (x as i64);
-        }
+    if -13_000_000_000 < sum && sum < 13_000_000_000 {
+        return sum + i64::from(x);
     }
-    within(within(sum) + (x as i64))
-}
-
-// `sampled`: the sample joins the open block, and completes it as its 128th.
-fn sampled(x: i32, t: Tally) -> Update
-    ensures { Updates t result (sampled x) }
-{
-    let sum = summed(t.open, x);
-    if t.filled < 127 {
-        let mut next = t;
-        next.open = sum;
-        next.filled = t.filled + 1;
-        return Update {
-            tally: next,
-            done: false,
-            sum: 0,
-        };
-    }
-    Update {
-        tally: t,
-        done: true,
-        sum,
-    }
+    within(within(sum) + i64::from(x))
 }
 
 // `open_emptied`: the open block empties.
 // Not: a sample stays; the sum stays.
+#[tactic(auto, unfolding(rules::specs::History::open_emptied, rules::specs::History::with_blocks, rules::specs::History::saturated))]
 pub fn open_emptied(t: Tally) -> Tally
     ensures { Steps t result open_emptied }
 {
-    let mut rest = t;
-    rest.open = 0;
-    rest.filled = 0;
-    rest
+    Tally {
+        open: 0,
+        filled: 0,
+        ..t
+    }
 }
 
 // `replaced`: `count` blocks are in use, and the building history and the open block empty.
+#[tactic(auto, unfolding(rules::specs::History::replaced, rules::specs::History::with_blocks, rules::specs::History::open_emptied, crate::specs::Bridge::first_sums))]
 fn replaced(count: u8, t: Tally) -> Tally
     ensures { (old was sums building backup : List ℤ) → history_of result sums building backup ≡ replaced (kept_of sums count) (history_of t old was backup) }
 {
-    let mut next = open_emptied(t);
-    next.count = count;
-    next.built = 0;
-    next
+    Tally {
+        count,
+        built: 0,
+        ..open_emptied(t)
+    }
 }
 
 // `starts_building`: a building history with no block yet, and an empty open block.
+#[tactic(auto, unfolding(rules::specs::History::starts_building, rules::specs::History::replaced, rules::specs::History::with_blocks))]
 fn starts_building(t: Tally) -> Tally
     ensures { Steps t result starts_building }
 {
-    let mut next = replaced(t.count, t);
-    next.builds = 1;
-    next
+    Tally {
+        builds: 1,
+        ..replaced(t.count, t)
+    }
 }
 
 // `noted`: a reference is noted as the one selected last; with policy 0, another than the last one starts a building history.
+#[tactic(auto, unfolding(rules::specs::History::noted, rules::specs::History::with_last, rules::specs::History::starts_building, rules::specs::History::with_blocks))]
 fn noted(policy: u8, selected: u32, t: Tally) -> Tally
     ensures { Steps t result (noted policy selected) }
 {
-    let counts = is_counted(selected);
-    if counts {
-        let reference = selected as u8;
-        if reference == t.last {
-            return t;
-        }
-        let mut next = t;
-        next.last = reference;
-        if policy == 0 {
-            return starts_building(next);
-        }
-        return next;
+    if !is_input(selected) || selected == u32::from(t.last) {
+        return t;
     }
-    t
-}
-
-// `recorded`, step 5, of the tally: `locked` says whether the tick ends Locked, and x is its sample.
-fn updated(policy: u8, selected: u32, locked: bool, x: i32, t: Tally) -> Update
-    ensures { Updates t result (recorded policy selected locked x) }
-{
-    let next = noted(policy, selected, t);
-    if locked {
-        return sampled(x, next);
-    }
-    let rest = open_emptied(next);
-    Update {
-        tally: rest,
-        done: false,
-        sum: 0,
+    let next = Tally {
+        last: selected as u8,
+        ..t
+    };
+    if policy == 0 {
+        starts_building(next)
+    } else {
+        next
     }
 }
 
 // `pushed`: the new sum first, each other a place on, and the oldest dropped.
-fn pushed_on(sums: Sums, x: i64) -> Sums
-    ensures { result ≡ pushed x sums }
-{
-    let mut r = [x; 64];
-    let mut i = 1;
-    while i < 64 {
-        r[i] = sums[i - 1];
-        i += 1;
-    }
-    r
-}
-
-// `pushed`, where the sums lie.
 fn push(sums: &mut Sums, x: i64)
     ensures { sums.new ≡ pushed x sums.old }
 {
-    let old = *sums;
-    let new = pushed_on(old, x);
-    *sums = new;
-}
-
-// One block more, of which the latest 64 are kept.
-fn one_more(n: u8) -> u8
-    ensures { result ≡ min 64 (n + 1) }
-{
-    if n < 64 { n + 1 } else { 64 }
+    sums.copy_within(..63, 1);
+    sums[0] = x;
 }
 
 // `completed`: the block joins the history that fills; a building history that then has 43 replaces the blocks in use.
-fn completed(sum: i64, t: Tally, sums: &mut Sums, building: &mut Sums) -> Tally
-    ensures { (backup : List ℤ) → history_of result sums.new building.new backup ≡ rules.completed (saturated sum) (history_of t sums.old building.old backup) }
+fn completed(sum: i64, t: Tally, h: &mut History) -> Tally
+    ensures rule { kept_in result h.new ≡ rules.completed (saturated sum) (kept_in t h.old) }
+    ensures backup { h.new.backup ≡ h.old.backup }
 {
     if t.builds == 0 {
-        push(sums, sum);
-        return replaced(one_more(t.count), t);
+        push(&mut h.sums, sum);
+        return replaced(t.count.min(63) + 1, t);
     }
-    push(building, sum);
+    push(&mut h.building, sum);
     if t.built < 42 {
-        let mut next = open_emptied(t);
-        next.built = t.built + 1;
-        return next;
+        return Tally {
+            built: t.built + 1,
+            ..open_emptied(t)
+        };
     }
-    let whole = *building;
-    *sums = whole;
-    let mut next = replaced(one_more(t.built), t);
-    next.builds = 0;
-    next
+    h.sums = h.building;
+    Tally {
+        builds: 0,
+        ..replaced(t.built.min(63) + 1, t)
+    }
 }
 
-// `recorded`, step 5: the sums are touched only when a block completes.
-// Not: 44 blocks built before they replace those in use; 129 samples a block; 63 blocks kept.
-pub fn recorded(
-    policy: u8,
-    selected: u32,
-    locked: bool,
-    x: i32,
-    t: Tally,
-    sums: &mut Sums,
-    building: &mut Sums,
-) -> Tally
-    ensures { (backup : List ℤ) → history_of result sums.new building.new backup ≡ rules.recorded policy selected locked x (history_of t sums.old building.old backup) }
+// `sampled`: the sample joins the open block, and completes it as its 128th.
+#[tactic(auto, unfolding(rules::specs::History::sampled, rules::specs::History::saturated))]
+fn sampled(x: i32, t: Tally, h: &mut History) -> Tally
+    ensures rule { kept_in result h.new ≡ rules.sampled x (kept_in t h.old) }
+    ensures backup { h.new.backup ≡ h.old.backup }
 {
-    let u = updated(policy, selected, locked, x, t);
-    if u.done {
-        return completed(u.sum, u.tally, sums, building);
+    let open = summed(t.open, x);
+    if t.filled < 127 {
+        return Tally {
+            open,
+            filled: t.filled + 1,
+            ..t
+        };
     }
-    u.tally
+    completed(open, t, h)
+}
+
+// `recorded`, step 5: the sums are touched only when a block completes, and those of the backup never.
+// Not: 44 blocks built before they replace those in use; 129 samples a block; 63 blocks kept.
+#[tactic(auto, unfolding(rules::specs::History::recorded))]
+pub fn recorded(policy: u8, selected: u32, locked: bool, x: i32, t: Tally, h: &mut History) -> Tally
+    ensures rule { kept_in result h.new ≡ rules.recorded policy selected locked x (kept_in t h.old) }
+    ensures backup { h.new.backup ≡ h.old.backup }
+{
+    let next = noted(policy, selected, t);
+    if locked {
+        sampled(x, next, h)
+    } else {
+        open_emptied(next)
+    }
 }
 
 // ---- the commands
@@ -256,43 +204,37 @@ pub fn recorded(
 // `commanded`: 1 copies the blocks in use to backup, 2 replaces them by the backup, 3 empties them; 2 and 3 empty the building history and the open block too;
 // any other is only noted. The count empties the building history; zeros are written over its sums so that they lie in memory at each tick.
 // Not: 1 copies the sums and not their count; 2 leaves the open block.
-pub fn commanded(c: u8, t: Tally, sums: &mut Sums, building: &mut Sums, backup: &mut Sums) -> Tally
-    ensures { history_of result sums.new building.new backup.new ≡ rules.commanded c (history_of t sums.old building.old backup.old) }
+#[tactic(auto, unfolding(rules::specs::History::commanded, rules::specs::History::with_command, rules::specs::History::backed_up, rules::specs::History::replaced, rules::specs::History::with_blocks, crate::specs::Bridge::first_sums))]
+pub fn commanded(c: u8, t: Tally, h: &mut History) -> Tally
+    ensures { kept_in result h.new ≡ rules.commanded c (kept_in t h.old) }
 {
-    let mut next = t;
-    next.command = c;
-    if c == 1 {
-        let kept = *sums;
-        *backup = kept;
-        next.backed = t.count;
-        return next;
+    let next = Tally { command: c, ..t };
+    match c {
+        1 => {
+            h.backup = h.sums;
+            Tally {
+                backed: t.count,
+                ..next
+            }
+        }
+        2 => {
+            h.sums = h.backup;
+            h.building = [0; 64];
+            replaced(t.backed, next)
+        }
+        3 => {
+            h.building = [0; 64];
+            replaced(0, next)
+        }
+        _ => next,
     }
-    if c == 2 {
-        let kept = *backup;
-        *sums = kept;
-        *building = [0; 64];
-        return replaced(t.backed, next);
-    }
-    if c == 3 {
-        *building = [0; 64];
-        return replaced(0, next);
-    }
-    next
 }
 
 // `fresh_history`: no block, no sample, no backup, and nothing builds, whatever the sums are; the last reference and the last command are 0.
 // Not: a backup; a last command of 1.
+#[tactic(auto, unfolding(rules::specs::History::fresh_history, rules::specs::History::saturated, crate::specs::Bridge::first_sums))]
 pub fn fresh_tally() -> Tally
     ensures { (sums building backup : List ℤ) → history_of result sums building backup ≡ fresh_history }
 {
-    Tally {
-        open: 0,
-        filled: 0,
-        count: 0,
-        built: 0,
-        backed: 0,
-        builds: 0,
-        last: 0,
-        command: 0,
-    }
+    Tally::default()
 }
