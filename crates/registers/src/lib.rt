@@ -88,8 +88,8 @@ const QUALIFICATION: Option<Writable> = Some(Writable {
 // 0x27, and 0x46 to 0x4e
 const READ_ONLY: Option<Writable> = None;
 
-// The table, in address order.
-const TABLE: [Option<Writable>; REGISTERS] = [
+// The table, in address order. A static: a constant array would be built anew on the stack for each use.
+static TABLE: [Option<Writable>; REGISTERS] = [
     INPUT, // 0x1c
     INPUT, // 0x1d
     INPUT, // 0x1e
@@ -197,9 +197,11 @@ pub fn is_automatic(regs: &Registers) -> bool
 fn own_register(regs: &Registers, c: u32) -> u8
     ensures { result ≡ settings_from regs.now (0x1b + c) }
 {
-    match u8::try_from(c.saturating_add(0x1b)) {
-        Ok(a) => setting(regs, a),
-        Err(_) => regs[REGISTERS],
+    // tried `u8::try_from` of the sum: five instructions more at each tick of a wait
+    if c <= 228 {
+        setting(regs, 0x1b + c as u8)
+    } else {
+        regs[REGISTERS]
     }
 }
 
