@@ -1,7 +1,8 @@
 -- The code's table of registers by the rules' own.
+use Rattle.std.specs.Prelude.{Option, Some, None, if◌then◌else◌}
 use Rattle.rules.specs.Registers as rules
-use Rattle.registers.specs.declared.Register as code
+use Rattle.registers.specs.declared.Writable as code
 
--- a row of the rules' table, without its address: in the code a row's place says it
-unfoldable pub row : rules.Register → code.Register
-row r = record { fresh = r.fresh; readonly = r.read_only; largest = r.largest }
+-- A row of the rules' table, without its address: in the code a row's place says it. A register that is read only has no Fresh and no Largest.
+unfoldable pub row : rules.Register → Option code.Writable
+row r = if r.read_only then None else Some (record { fresh = r.fresh; largest = r.largest })

@@ -3,7 +3,7 @@
 // The bytes of 0x26 and of the registers that are read only stay 0: what these show is kept elsewhere.
 #![tactic(auto)]
 
-ghost use Rattle.std.specs.Prelude.{◌≡◌, ◌+◌, length, get_or};
+ghost use Rattle.std.specs.Prelude.{◌≡◌, ◌+◌, get_or};
 ghost use Rattle.rules.specs.Settings as settings;
 ghost use Rattle.rules.specs.Registers as rules;
 ghost use Rattle.rules.specs.Registers.{settings_from, fresh_table};
@@ -28,83 +28,68 @@ pub const REJECT_SLOT: usize = 16;
 
 pub const QUALIFICATION_SLOT: usize = 17;
 
-// A row of the table: the columns Fresh, R and Largest.
+// A row of the table that may be written: the columns Fresh and Largest. A register that is read only, column R, has neither: its row is `None`.
 #[derive(Clone, Copy)]
-pub struct Register {
+pub struct Writable {
     pub fresh: u8,
-    pub readonly: bool,
     pub largest: u8,
 }
 
 // 0x1c to 0x23: revertive and priority of an input
-const INPUT: Register = Register {
+const INPUT: Option<Writable> = Some(Writable {
     fresh: 0,
-    readonly: false,
     largest: 255,
-};
+});
 // 0x24: Free Run as a candidate
-const FREE_RUN: Register = Register {
+const FREE_RUN: Option<Writable> = Some(Writable {
     fresh: 0,
-    readonly: false,
     largest: 31,
-};
+});
 // 0x25: history policy
-const POLICY: Register = Register {
+const POLICY: Option<Writable> = Some(Writable {
     fresh: 0,
-    readonly: false,
     largest: 1,
-};
+});
 // 0x26: history command
-const COMMAND: Register = Register {
+const COMMAND: Option<Writable> = Some(Writable {
     fresh: 0,
-    readonly: false,
     largest: 3,
-};
+});
 // 0x40: control
-const CONTROL: Register = Register {
+const CONTROL: Option<Writable> = Some(Writable {
     fresh: 0,
-    readonly: false,
     largest: 1,
-};
+});
 // 0x41: Op_Mode
-const OP_MODE: Register = Register {
+const OP_MODE: Option<Writable> = Some(Writable {
     fresh: 0,
-    readonly: false,
     largest: 9,
-};
+});
 // 0x42: usable inputs
-const MASK: Register = Register {
+const MASK: Option<Writable> = Some(Writable {
     fresh: 255,
-    readonly: false,
     largest: 255,
-};
+});
 // 0x43: reversion delay in minutes
-const DELAY: Register = Register {
+const DELAY: Option<Writable> = Some(Writable {
     fresh: 0,
-    readonly: false,
     largest: 255,
-};
+});
 // 0x44: reject limit
-const REJECT: Register = Register {
+const REJECT: Option<Writable> = Some(Writable {
     fresh: 31,
-    readonly: false,
     largest: 127,
-};
+});
 // 0x45: qualification limit
-const QUALIFICATION: Register = Register {
+const QUALIFICATION: Option<Writable> = Some(Writable {
     fresh: 25,
-    readonly: false,
     largest: 127,
-};
-// A register that is read only has no Fresh and no Largest.
-const READ_ONLY: Register = Register {
-    fresh: 0,
-    readonly: true,
-    largest: 0,
-};
+});
+// 0x27, and 0x46 to 0x4e
+const READ_ONLY: Option<Writable> = None;
 
-// The table, in address order.
-const TABLE: [Register; REGISTERS] = [
+// The table, in address order. A static: a constant array would be built anew on the stack for each use.
+static TABLE: [Option<Writable>; REGISTERS] = [
     INPUT, // 0x1c
     INPUT, // 0x1d
     INPUT, // 0x1e
@@ -136,26 +121,20 @@ const TABLE: [Register; REGISTERS] = [
 
 // The slot of an address in the map, 0 to 26; 27 for an address that is not in it.
 // Not: from 0x40 on one slot too high; 0x4e outside the map.
+#[tactic(auto, unfolding(rules::specs::Registers::slot))]
 pub fn slot(a: u8) -> usize
     ensures { result ≡ rules.slot a }
 {
-    if a < 0x1c {
-        return REGISTERS;
+    match a {
+        0x1c..=0x27 => usize::from(a - 0x1c),
+        0x40..=0x4e => usize::from(a - 0x34),
+        _ => REGISTERS,
     }
-    if a <= 0x27 {
-        return (a - 0x1c) as usize;
-    }
-    if a < 0x40 {
-        return REGISTERS;
-    }
-    if a <= 0x4e {
-        return (a - 0x34) as usize;
-    }
-    REGISTERS
 }
 
 // Whether an address is in the map.
 // Not: 0x4e is not; every address is.
+#[tactic(auto, unfolding(rules::specs::Registers::in_map))]
 pub fn in_map(a: u8) -> bool
     ensures { result ≡ rules.in_map a }
 {
@@ -164,21 +143,26 @@ pub fn in_map(a: u8) -> bool
 
 // A register's row by its slot; past the map, the row of one that is read only.
 // Not: the row beside it; past the map a row that may be written.
-pub fn row_at(k: usize) -> Register
+pub fn row_at(k: usize) -> Option<Writable>
     ensures { result ≡ row (get_or rules.registers k (rules.reads 0)) }
 {
-    if k < REGISTERS {
-        return TABLE[k];
-    }
-    READ_ONLY
+    if k < REGISTERS { TABLE[k] } else { READ_ONLY }
 }
 
 // A register's row by its address; an address that is not in the map has the row of one that is read only.
 // Not: the hours, 0x27, may be written; Largest 15 for 0x24.
-pub fn register_at(a: u8) -> Register
+#[tactic(auto, using(crate::proofs::Table::any_row), unfolding(rules::specs::Registers::register))]
+pub fn register_at(a: u8) -> Option<Writable>
     ensures { result ≡ row (rules.register a) }
 {
     row_at(slot(a))
+}
+
+// The column Fresh by its slot; 0 for a register that is read only, and past the map.
+fn fresh_at(k: usize) -> u8
+    ensures { result ≡ get_or fresh_table k 0 }
+{
+    row_at(k).map_or(0, |r| r.fresh)
 }
 
 // The registers of the standard fresh unit: the column Fresh.
@@ -186,31 +170,18 @@ pub fn register_at(a: u8) -> Register
 pub fn fresh_registers() -> Registers
     ensures { settings_from result ≡ settings_from fresh_table }
 {
-    let table = TABLE;
-    let mut regs = [0u8; SLOTS];
-    for k in 0..REGISTERS {
-        regs[k] = table[k].fresh;
-    }
-    regs
+    std::array::from_fn(fresh_at)
 }
 
 // ---- the settings
 
-// There are so many bytes: what their type says, as a fact. It costs nothing when compiled.
-// Not: 0 returned; 27 returned.
-pub fn bytes(regs: Registers) -> usize
-    ensures { (result ≡ 32) × (length regs ≡ 32) }
-{
-    regs.len()
-}
-
 // The setting at an address. An address that is not in the map has the byte behind the last register.
 // Not: the setting beside it; 255 outside the map.
+#[tactic(auto, using(crate::proofs::Slots::slot_le), unfolding(rules::specs::Registers::settings_from))]
 pub fn setting(regs: &Registers, a: u8) -> u8
     ensures { result ≡ settings_from regs.now a }
 {
-    let k = slot(a);
-    regs[k]
+    regs[slot(a)]
 }
 
 // 0x40: automatic control.
@@ -222,17 +193,21 @@ pub fn is_automatic(regs: &Registers) -> bool
 }
 
 // The register of candidate c, 0x1b + c: 0x1c to 0x23 for the inputs 1 to 8, 0x24 for Free Run, 9. An address past 255 is not in the map.
+#[tactic(auto, using(crate::proofs::Slots::slot_past), unfolding(rules::specs::Registers::settings_from))]
 fn own_register(regs: &Registers, c: u32) -> u8
     ensures { result ≡ settings_from regs.now (0x1b + c) }
 {
+    // tried `u8::try_from` of the sum: five instructions more at each tick of a wait
     if c <= 228 {
-        return setting(regs, 0x1b + c as u8);
+        setting(regs, 0x1b + c as u8)
+    } else {
+        regs[REGISTERS]
     }
-    regs[REGISTERS]
 }
 
 // Bit 3 of candidate c's register: revertive.
 // Not: bit 2 of it; the register before it.
+#[tactic(auto, unfolding(rules::specs::Settings::revertive, rules::specs::Words::bit))]
 pub fn is_revertive(regs: &Registers, c: u32) -> bool
     ensures { result ≡ settings.revertive (settings_from regs.now) c }
 {

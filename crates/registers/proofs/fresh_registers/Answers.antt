@@ -1,19 +1,10 @@
--- `fresh_registers` meets its contract. The loop's invariant: the first k bytes are those of the column Fresh.
-use mathlib.Core.Path.{refl}
-use native.Mathlib.Omega.{arith}
-use borrow.Author.Rules.{rules}
+-- Each byte is that of the column Fresh.
+use Rattle.std.proofs.Common.{◌<◌, arith, rules}
 use Rattle.rules.specs.Registers as rules
-use Rattle.registers.specs.Bridge.{row}
-use Rattle.registers.proofs.Table.{behind, column_more, behind_more, column_all}
+use Rattle.registers.proofs.Slots.{same_settings}
 use Rattle.registers.proofs.fresh_registers.Goals as goal
 
-pub loop-k-init : goal.loop-k-init
-unfolding behind
-loop-k-init c = (omega arith, refl, refl, refl)
-
-pub loop-k-preserved : goal.loop-k-preserved
-unfolding rules.registers row
-loop-k-preserved c = (omega arith, search rules, column_more _ _ refl _ _ c.loop-k.invariant.1 c.loop-k-test.true c.loop-k.invariant.2, behind_more _ _ refl _ _ c.loop-k-test.true c.loop-k.invariant.3)
-
 pub returns : goal.returns
-returns c = column_all _ _ c.loop-k-test.false c.loop-k.invariant.3 c.loop-k.invariant.2
+returns c = same_settings c.from_fn.result rules.fresh_table (λ k le.
+    let below : k < 32 = omega arith in
+    let made = c.from_fn.ensures.items.at k 0 below in search rules)
