@@ -1,3 +1,2 @@
 -- What the contracts of the state, and of what changes it, cite.
-pub mod Lent
 pub mod Stored

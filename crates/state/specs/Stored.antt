@@ -1,6 +1,8 @@
 -- THE STORED STATE, named once: the rules' state that it is, and what it is with another part. A contract speaks of one stored state, and replaces in it what
 -- its function is lent.
 use Rattle.std.specs.Prelude.{◌≡◌, List, ℕ, ℤ}
+use Rattle.rules.specs.History.{fresh_history}
+use Rattle.rules.specs.Selection.{settled}
 use Rattle.rules.specs.State.{State}
 use Rattle.rules.specs.Registers.{settings_from, fresh}
 use Rattle.buckets.specs.Bridge.{buckets_of}
@@ -35,9 +37,20 @@ meaning s =
       week = week_of s.core.place s.windows;
     }
 
+-- the same, of a core alone: with any sums, it is that of a fresh unit
+abbrev pub core_is_fresh : Core → Type 0
+core_is_fresh k =
+    ((sums building backup : List ℤ) → history_of k.tally sums building backup ≡ fresh_history)
+    × (choice_of k.choice ≡ settled 0) × (loop_of k.pll ≡ fresh.loop) × (k.holding ≡ 0) × (k.place ≡ 0)
+
 -- what is said of a unit that is made as the standard fresh one
 abbrev pub Made : Stored → Type 0
 Made u = meaning u ≡ fresh
+
+-- a unit of these parts: what is lent of one, and what is not
+abbrev pub unit_of : Core → Monitors → Buckets → History → List ℕ → List ℕ → Stored
+unit_of core monitors buckets history windows regs =
+    record { core = core; monitors = monitors; buckets = buckets; history = history; windows = windows; regs = regs }
 
 -- ---- with another part
 
@@ -59,24 +72,6 @@ with_windows x s = record { core = s.core; monitors = s.monitors; buckets = s.bu
 abbrev pub with_registers : List ℕ → Stored → Stored
 with_registers x s = record { core = s.core; monitors = s.monitors; buckets = s.buckets; history = s.history; windows = s.windows; regs = x }
 
--- other block sums in use, of the building history, of the backup
-abbrev pub with_sums : List ℤ → Stored → Stored
-with_sums sums s = with_history (record { sums = sums; building = s.history.building; backup = s.history.backup }) s
-
-abbrev pub with_building : List ℤ → Stored → Stored
-with_building building s = with_history (record { sums = s.history.sums; building = building; backup = s.history.backup }) s
-
-abbrev pub with_backup : List ℤ → Stored → Stored
-with_backup backup s = with_history (record { sums = s.history.sums; building = s.history.building; backup = backup }) s
-
--- another tally
-abbrev pub with_tally : Tally → Stored → Stored
-with_tally t s =
-    with_core (record { tally = t; choice = s.core.choice; holding = s.core.holding; place = s.core.place; pll = s.core.pll }) s
-
--- other frequency alarms; other soaks
-abbrev pub with_frequency : List ℕ → Stored → Stored
-with_frequency frequency s = with_rows (rows.with_frequency s.monitors frequency) s
-
-abbrev pub with_soak : List ℕ → Stored → Stored
-with_soak soak s = with_rows (rows.with_soak s.monitors soak) s
+-- a core with another tally
+abbrev pub with_tally : Tally → Core → Core
+with_tally t k = record { tally = t; choice = k.choice; holding = k.holding; place = k.place; pll = k.pll }

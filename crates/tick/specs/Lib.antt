@@ -1,2 +1,2 @@
 -- What the contracts of a tick cite.
-pub mod Lent
+pub mod Handed

@@ -9,18 +9,19 @@ ghost use Rattle.rules.specs.Pll.{alarm_due};
 ghost use Rattle.rules.specs.Pll as pll;
 ghost use Rattle.rules.specs.Inputs.{altered};
 ghost use Rattle.rules.specs.Tick as rules;
-ghost use Rattle.inputs.specs.Bridge.{inputs_of, with_lock_alarms, kept};
-ghost use Rattle.inputs.specs.declared.Monitors as stored;
+ghost use Rattle.buckets.specs.declared.Buckets.{Buckets};
+ghost use Rattle.inputs.specs.Bridge.{inputs_of, with_lock_alarms};
 ghost use Rattle.pll.specs.Bridge.{loop_of};
-ghost use Rattle.state.specs.Stored.{Stored, meaning};
-ghost use Rattle.tick.specs.Lent.{across, Handed};
+ghost use Rattle.state.specs.Stored.{meaning, unit_of};
+ghost use Rattle.tick.specs.Handed.{Suits};
 
-use arith::{both, is_tracked};
-use buckets::Row;
-use candidates::Keys;
-use history::Sums;
+use arith::is_input;
+use buckets::Numbers;
+use history::History;
+use inputs::Monitors;
 use pll::Loop;
 use registers::Registers;
+use selection::Handed;
 use state::Core;
 use week::Windows;
 
@@ -28,7 +29,7 @@ use week::Windows;
 fn looped(lock: bool, selected: u32, p: Loop) -> Loop
     ensures { loop_of result ≡ (if is_tracked selected then pll.looped lock (loop_of p) else loop_of p) }
 {
-    let tracked = is_tracked(selected);
+    let tracked = is_input(selected);
     if tracked {
         return pll::looped(lock, p);
     }
@@ -36,54 +37,43 @@ fn looped(lock: bool, selected: u32, p: Loop) -> Loop
 }
 
 // Step 3: "Unlock run 782 (100 s) sets that input's lock alarm".
-fn alarmed(selected: u32, p: Loop, remainder: &mut Row, soak: &mut Row)
-    ensures { (m : stored.Monitors) → inputs_of (with_lock_alarms m remainder.new soak.new) ≡ (if is_tracked selected && alarm_due (loop_of p) then altered lock_alarmed selected (inputs_of (with_lock_alarms m remainder.old soak.old)) else inputs_of (with_lock_alarms m remainder.old soak.old)) }
+fn alarmed(selected: u32, p: Loop, m: &mut Monitors)
+    ensures inputs { inputs_of m.new ≡ (if is_tracked selected && alarm_due (loop_of p) then altered lock_alarmed selected (inputs_of m.old) else inputs_of m.old) }
+    ensures rows { m.new ≡ with_lock_alarms m.old m.new.remainder m.new.soak }
 {
-    let due = both(is_tracked(selected), pll::alarm_due(p));
+    let due = is_input(selected) & pll::alarm_due(p);
     if due {
-        inputs::alarm(remainder, soak, selected);
-        return;
+        m.alarm(selected);
     }
 }
 
-// The rule `ticked`, where the numbers are those of each input's set, and the keys and the floor of the delay follow from the registers.
+// The rule `ticked`, where the numbers are those of each input's set, and what is handed follows from the registers. Frequency alarms and backup stay.
 // Not: the place advances before the selection; the selection stays as it was; step 4 on the loop before step 3.
 pub fn tick(
     mask: u8,
     lock: bool,
     x: i32,
     k: Core,
-    level: &mut Row,
-    decay: &mut Row,
-    activity: &mut Row,
-    frequency: &Row,
-    remainder: &mut Row,
-    soak: &mut Row,
-    sizes: &Row,
-    highs: &Row,
-    lows: &Row,
-    lasts: &Row,
+    m: &mut Monitors,
+    n: &Numbers,
     regs: &Registers,
-    keys: &Keys,
-    handed: u32,
+    handed: &Handed,
     windows: &Windows,
-    sums: &mut Sums,
-    building: &mut Sums,
+    h: &mut History,
 ) -> Core
-    ensures { across level decay activity (kept frequency) remainder soak (kept regs) (kept windows) sums building (λ before after. (s : Stored) → Handed sizes.now highs.now lows.now lasts.now regs.now keys.now handed s → meaning (after result s) ≡ rules.ticked (record { mask = mask; lock = lock; sample = x }) (meaning (before k s))) }
+    ensures rule { (b : Buckets) → Suits n.now handed.now b regs.now → meaning (unit_of result m.new b h.new windows.now regs.now) ≡ rules.ticked (record { mask = mask; lock = lock; sample = x }) (meaning (unit_of k m.old b h.old windows.now regs.now)) }
+    ensures frequency { m.new.frequency ≡ m.old.frequency }
+    ensures backup { h.new.backup ≡ h.old.backup }
 {
     // steps 1 and 2
-    monitor::watched(
-        mask, level, decay, activity, frequency, remainder, soak, sizes, highs, lows, lasts,
-    );
+    monitor::watched(mask, m, n);
     // step 3
     let driven = looped(lock, k.choice.selected, k.pll);
-    alarmed(k.choice.selected, driven, remainder, soak);
-    // step 4, at the place that stands, and the place after it; on a copy of the soaks: of a row that lies at hand eight are compared side by side
-    let soaks = *soak;
+    alarmed(k.choice.selected, driven, m);
+    // step 4, at the place that stands, and the place after it
     let place = week::advanced(k.place);
-    let choice = selection::chosen(&soaks, regs, keys, handed, windows, k.place, k.choice);
-    let steered = pll::steered(
+    let choice = selection::chosen(m, regs, handed, windows, k.place, k.choice);
+    let pll = pll::steered(
         registers::is_automatic(regs),
         registers::setting(regs, 0x41),
         history::is_ready(k.tally),
@@ -91,22 +81,21 @@ pub fn tick(
         choice.selected,
         driven,
     );
-    let holding = pll::holding_after(k.pll.mode, steered.mode, k.holding);
+    let holding = pll::holding_after(k.pll.mode, pll.mode, k.holding);
     // step 5
     let tally = history::recorded(
         registers::setting(regs, 0x25),
         choice.selected,
-        pll::is_locked(steered.mode),
+        pll::is_locked(pll.mode),
         x,
         k.tally,
-        sums,
-        building,
+        h,
     );
     Core {
-        tally: tally,
-        choice: choice,
-        holding: holding,
-        place: place,
-        pll: steered,
+        tally,
+        choice,
+        holding,
+        place,
+        pll,
     }
 }

@@ -1,4 +1,3 @@
 -- What the unit's contracts cite.
 pub mod Events
 pub mod Given
-pub mod Lent

@@ -1,29 +1,33 @@
-// The four events of a run sheet (document 01): what each gives, a number and the state after it.
-// The arrays of the state are lent and changed where they lie, the numbers go by value. A refusal leaves every stored number as it was.
+// The four events of a run sheet (document 01): what each gives, a refusal or the state after it.
+// What an event changes of a unit is lent to it and changed where it lies; the core goes by value. A refusal leaves every stored number as it was.
 // Each contract is an equation with a rule of crates/rules/specs through crates/state/specs/Stored.antt; the rule is named above the function.
 #![tactic(auto)]
 
-ghost use Rattle.std.specs.Prelude.{◌≡◌, true, ◌*◌, leb, eqb, nat_abs, if◌then◌else◌};
+ghost use Rattle.std.specs.Prelude.{◌≡◌, true, ◌*◌, List, ℕ, leb, eqb, nat_abs, if◌then◌else◌};
 ghost use Rattle.rules.specs.Registers.{in_map, written, settings_from};
 ghost use Rattle.rules.specs.Settings.{delay, delay_ticks};
 ghost use Rattle.rules.specs.Events as events;
 ghost use Rattle.rules.specs.Events.{half_ppm, sample_limit};
 ghost use Rattle.rules.specs.Run.{after_write};
+ghost use Rattle.refusals.specs.Number.{number};
+ghost use Rattle.buckets.specs.declared.Buckets.{Buckets};
+ghost use Rattle.history.specs.declared.History as sums;
+ghost use Rattle.inputs.specs.declared.Monitors as rows;
 ghost use Rattle.selection.specs.Bridge.{Follows};
-ghost use Rattle.state.specs.Lent.{wholly};
-ghost use Rattle.state.specs.Stored.{Stored, meaning, with_core, with_tally, with_frequency, with_soak, with_registers, with_backup};
-ghost use Rattle.tick.specs.Lent.{across, Handed};
+ghost use Rattle.state.specs.Stored.{meaning, unit_of, with_tally};
+ghost use Rattle.state.specs.declared.Core as core;
+ghost use Rattle.tick.specs.Handed.{Suits};
 ghost use Rattle.unit.specs.Events.{event_of};
-ghost use Rattle.unit.specs.Given.{Gives};
-ghost use Rattle.unit.specs.Lent.{entering, leaving};
-ghost use Rattle.inputs.specs.Bridge.{kept};
+ghost use Rattle.unit.specs.Given.{Gives, core_after};
 
-use arith::{is_input, is_tracked, wide16, wide32};
-use buckets::{Buckets, Row};
-use candidates::Keys;
-use history::{Sums, Tally};
+use arith::is_input;
+use buckets::Numbers;
+use history::{History, Tally};
+use inputs::Monitors;
+use refusals::Refusal;
 use registers::Registers;
-use state::Core;
+use selection::Handed;
+use state::{Core, Unit};
 use week::Windows;
 
 // The four events.
@@ -38,23 +42,13 @@ pub enum Event {
     Write(u8, u8),
 }
 
-// What an event gives, with the arrays lent: its refusal number, 0 if it is accepted, and the core.
-#[derive(Clone, Copy)]
-pub struct Stepped {
-    pub refusal: u8,
-    pub core: Core,
-}
-
 // ---- the four events, with what each changes lent
 
 // Refusal 7: "sample out of range".
 fn in_range(x: i32) -> bool
     ensures { result ≡ leb (nat_abs x) sample_limit }
 {
-    if x < -125_000_000 {
-        return false;
-    }
-    x <= 125_000_000
+    x.unsigned_abs() <= 125_000_000
 }
 
 // A tick, or refusal 7.
@@ -63,104 +57,70 @@ fn on_tick(
     lock: bool,
     x: i32,
     k: Core,
-    level: &mut Row,
-    decay: &mut Row,
-    activity: &mut Row,
-    frequency: &Row,
-    remainder: &mut Row,
-    soak: &mut Row,
-    sizes: &Row,
-    highs: &Row,
-    lows: &Row,
-    lasts: &Row,
+    m: &mut Monitors,
+    n: &Numbers,
     regs: &Registers,
-    keys: &Keys,
-    handed: u32,
+    handed: &Handed,
     windows: &Windows,
-    sums: &mut Sums,
-    building: &mut Sums,
-) -> Stepped
-    ensures { across level decay activity (kept frequency) remainder soak (kept regs) (kept windows) sums building (λ before after. (s : Stored) → Handed sizes.now highs.now lows.now lasts.now regs.now keys.now handed s → Gives (before k s) (events.tick_with mask lock x) result.refusal (after result.core s)) }
+    h: &mut History,
+) -> Result<Core, Refusal>
+    ensures { (b : Buckets) → Suits n.now handed.now b regs.now → Gives (unit_of k m.old b h.old windows.now regs.now) (events.tick_with mask lock x) (number result) (unit_of (core_after k result) m.new b h.new windows.now regs.now) }
 {
     let ok = in_range(x);
     if ok {
-        let next = tick::tick(
-            mask, lock, x, k, level, decay, activity, frequency, remainder, soak, sizes, highs,
-            lows, lasts, regs, keys, handed, windows, sums, building,
-        );
-        return Stepped {
-            refusal: 0,
-            core: next,
-        };
+        return Ok(tick::tick(
+            mask, lock, x, k, m, n, regs, handed, windows, h,
+        ));
     }
-    Stepped {
-        refusal: 7,
-        core: k,
-    }
+    Err(Refusal::SampleOutOfRange)
 }
 
 // A limit in steps of 1/64 ppm: "the limits are compared as 32 times theirs".
 fn in_steps(limit: u8) -> u16
     ensures { result ≡ half_ppm * limit }
 {
-    32 * wide16(limit)
+    32 * u16::from(limit)
 }
 
 // A measurement, or refusal 6: "input not 1 to 8".
-fn on_measurement(i: u8, offset: i16, frequency: &mut Row, regs: &Registers) -> u8
-    ensures { (s : Stored) → Gives (with_registers regs.now (with_frequency frequency.old s)) (events.measurement i offset) result (with_registers regs.now (with_frequency frequency.new s)) }
+fn on_measurement(i: u8, offset: i16, m: &mut Monitors, regs: &Registers) -> Result<(), Refusal>
+    ensures { (k : core.Core) (b : Buckets) (h : sums.History) (w : List ℕ) → Gives (unit_of k m.old b h w regs.now) (events.measurement i offset) (number result) (unit_of k m.new b h w regs.now) }
 {
-    let ok = is_input(wide32(i));
+    let ok = is_input(u32::from(i));
     if ok {
         let reject = in_steps(registers::setting(regs, 0x44));
         let qualification = in_steps(registers::setting(regs, 0x45));
-        inputs::measure(frequency, i, offset, reject, qualification);
-        return 0;
+        m.measure(i, offset, reject, qualification);
+        return Ok(());
     }
-    6
+    Err(Refusal::NoInput)
 }
 
 // A Hit, or refusal 5: "Hit with no reference 1 to 8 selected".
-fn on_hit(k: Core, soak: &mut Row) -> Stepped
-    ensures { (s : Stored) → Gives (with_core k (with_soak soak.old s)) events.hit result.refusal (with_core result.core (with_soak soak.new s)) }
+fn on_hit(k: Core, m: &mut Monitors) -> Result<Core, Refusal>
+    ensures { (b : Buckets) (h : sums.History) (w regs : List ℕ) → Gives (unit_of k m.old b h w regs) events.hit (number result) (unit_of (core_after k result) m.new b h w regs) }
 {
-    let ok = is_tracked(k.choice.selected);
+    let ok = is_input(k.choice.selected);
     if ok {
-        inputs::unsoak(soak, k.choice.selected);
-        let p = pll::loop_after_hit(history::is_ready(k.tally));
-        let none = selection::settled(0);
-        let t = history::open_emptied(k.tally);
-        let mut next = k;
-        next.tally = t;
-        next.choice = none;
-        next.holding = 0;
-        next.pll = p;
-        return Stepped {
-            refusal: 0,
-            core: next,
-        };
+        m.unsoak(k.choice.selected);
+        return Ok(Core {
+            tally: history::open_emptied(k.tally),
+            choice: selection::settled(0),
+            holding: 0,
+            pll: pll::loop_after_hit(history::is_ready(k.tally)),
+            ..k
+        });
     }
-    Stepped {
-        refusal: 5,
-        core: k,
-    }
+    Err(Refusal::NothingToHit)
 }
 
 // The rule `after_write`: 0x26 is a command to the history, any other register of the map a setting.
-fn write_accepted(
-    a: u8,
-    v: u8,
-    t: Tally,
-    regs: &mut Registers,
-    sums: &mut Sums,
-    building: &mut Sums,
-    backup: &mut Sums,
-) -> Tally
-    ensures s_value { (s : Stored) → in_map a ≡ true → meaning (with_tally result (leaving regs sums building backup s)) ≡ after_write a v (meaning (with_tally t (entering regs sums building backup s))) }
+fn write_accepted(a: u8, v: u8, t: Tally, regs: &mut Registers, h: &mut History) -> Tally
+    ensures rule { (k : core.Core) (m : rows.Monitors) (b : Buckets) (w : List ℕ) → in_map a ≡ true → meaning (unit_of (with_tally result k) m b h.new w regs.new) ≡ after_write a v (meaning (unit_of (with_tally t k) m b h.old w regs.old)) }
     ensures regs_after { in_map a ≡ true → settings_from regs.new ≡ (if eqb a 0x26 then settings_from regs.old else written a v (settings_from regs.old)) }
 {
     if a == 0x26 {
-        return history::commanded(v, t, sums, building, backup);
+        return history::commanded(v, t, h);
     }
     writes::written(regs, a, v);
     t
@@ -176,172 +136,101 @@ fn delay_after(a: u8, regs: &Registers, handed: u32) -> u32
     handed
 }
 
-// The rule `outcome` of a write: accepted, or the first of refusals 1, 2, 3, 4 and 8 that fits. The keys are made anew, and by a write of 0x43 the floor.
-// Not: the keys left as they were; a command's tally dropped.
-pub fn write(
-    a: u8,
-    v: u8,
-    k: Core,
-    regs: &mut Registers,
-    keys: &mut Keys,
-    handed: &mut u32,
-    sums: &mut Sums,
-    building: &mut Sums,
-    backup: &mut Sums,
-) -> Stepped
-    ensures gives { (s : Stored) → Gives (with_core k (entering regs sums building backup s)) (events.write a v) result.refusal (with_core result.core (leaving regs sums building backup s)) }
-    ensures follows { Follows (settings_from regs.old) keys.old handed.old → Follows (settings_from regs.new) keys.new handed.new }
+// The rule `outcome` of a write: accepted, or the first of refusals 1, 2, 3, 4 and 8 that fits.
+fn on_write(a: u8, v: u8, k: Core, regs: &mut Registers, h: &mut History) -> Result<Core, Refusal>
+    ensures gives { (m : rows.Monitors) (b : Buckets) (w : List ℕ) → Gives (unit_of k m b h.old w regs.old) (events.write a v) (number result) (unit_of (core_after k result) m b h.new w regs.new) }
+    ensures regs_left { (number result ≡ 0 → ⊥) → regs.new ≡ regs.old }
+    ensures regs_after { number result ≡ 0 → settings_from regs.new ≡ (if eqb a 0x26 then settings_from regs.old else written a v (settings_from regs.old)) }
 {
-    let number = writes::write_refusal(
+    let checked = writes::check_write(
         regs,
         a,
         v,
         history::is_ready(k.tally),
         history::holds_backup(k.tally),
     );
-    if number == 0 {
-        let t = write_accepted(a, v, k.tally, regs, sums, building, backup);
-        let made = candidates::keys_of(regs);
-        *keys = made;
-        *handed = delay_after(a, regs, *handed);
-        let mut next = k;
-        next.tally = t;
-        return Stepped {
-            refusal: 0,
-            core: next,
-        };
-    }
-    Stepped {
-        refusal: number,
-        core: k,
-    }
+    checked?;
+    Ok(Core {
+        tally: write_accepted(a, v, k.tally, regs, h),
+        ..k
+    })
+}
+
+// The same, and what is handed to the ticks after it: the keys are made anew, and by a write of 0x43 the floor.
+// Not: the keys left as they were; a command's tally dropped.
+pub fn write(
+    a: u8,
+    v: u8,
+    k: Core,
+    regs: &mut Registers,
+    handed: &mut Handed,
+    h: &mut History,
+) -> Result<Core, Refusal>
+    ensures gives { (m : rows.Monitors) (b : Buckets) (w : List ℕ) → Gives (unit_of k m b h.old w regs.old) (events.write a v) (number result) (unit_of (core_after k result) m b h.new w regs.new) }
+    ensures follows { Follows (settings_from regs.old) handed.old.keys handed.old.floor → Follows (settings_from regs.new) handed.new.keys handed.new.floor }
+{
+    let next = on_write(a, v, k, regs, h)?;
+    handed.keys = candidates::keys_of(regs);
+    handed.floor = delay_after(a, regs, handed.floor);
+    Ok(next)
 }
 
 // ---- an event
 
-// The rule `outcome`, with every array of the state lent but those of the sets, and beside them the numbers of each input's set, the keys of the registers, and
-// a floor of their delay. A write takes a copy of the core and its answer is copied: lent to that call, the core would lie in memory at each tick.
+// The rule `outcome`, of a unit whose parts are lent, with the numbers of each input's set and what follows from the registers beside them. A write takes the
+// core by value and gives it back: lent to that call, the core would lie in memory at each tick.
 // Not: the number of a measurement given as 0; the core of a write dropped.
 pub fn step(
     e: Event,
     k: Core,
-    level: &mut Row,
-    decay: &mut Row,
-    activity: &mut Row,
-    frequency: &mut Row,
-    remainder: &mut Row,
-    soak: &mut Row,
-    sizes: &Row,
-    highs: &Row,
-    lows: &Row,
-    lasts: &Row,
+    m: &mut Monitors,
+    n: &Numbers,
     regs: &mut Registers,
-    keys: &mut Keys,
-    handed: &mut u32,
+    handed: &mut Handed,
     windows: &Windows,
-    sums: &mut Sums,
-    building: &mut Sums,
-    backup: &mut Sums,
-) -> Stepped
-    ensures across { across level decay activity frequency remainder soak regs (kept windows) sums building (λ before after. (s : Stored) → Handed sizes.now highs.now lows.now lasts.now regs.old keys.old handed.old s → Gives (before k (with_backup backup.old s)) (event_of e) result.refusal (after result.core (with_backup backup.new s))) }
-    ensures follows { Follows (settings_from regs.old) keys.old handed.old → Follows (settings_from regs.new) keys.new handed.new }
+    h: &mut History,
+) -> Result<Core, Refusal>
+    ensures gives { (b : Buckets) → Suits n.now handed.old b regs.old → Gives (unit_of k m.old b h.old windows.now regs.old) (event_of e) (number result) (unit_of (core_after k result) m.new b h.new windows.now regs.new) }
+    ensures follows { Follows (settings_from regs.old) handed.old.keys handed.old.floor → Follows (settings_from regs.new) handed.new.keys handed.new.floor }
 {
     match e {
-        Event::Tick(mask, lock, x) => on_tick(
-            mask, lock, x, k, level, decay, activity, frequency, remainder, soak, sizes, highs,
-            lows, lasts, regs, keys, *handed, windows, sums, building,
-        ),
+        Event::Tick(mask, lock, x) => on_tick(mask, lock, x, k, m, n, regs, handed, windows, h),
         Event::Measurement(i, offset) => {
-            let refused = on_measurement(i, offset, frequency, regs);
-            Stepped {
-                refusal: refused,
-                core: k,
-            }
+            on_measurement(i, offset, m, regs)?;
+            Ok(k)
         }
-        Event::Hit => on_hit(k, soak),
-        Event::Write(a, v) => {
-            let copy = k;
-            let s = write(a, v, copy, regs, keys, handed, sums, building, backup);
-            let next = s.core;
-            Stepped {
-                refusal: s.refusal,
-                core: next,
-            }
-        }
+        Event::Hit => on_hit(k, m),
+        Event::Write(a, v) => write(a, v, k, regs, handed, h),
     }
 }
 
-// ---- a unit whose arrays are lent
-
-// The rule `outcome`: an event's number, and the core that it leaves. What a tick is handed is made here: the numbers of each input's set, the keys, and a floor
-// of the delay. No other event needs it.
+// The rule `outcome`, of a unit where it lies. What a tick is handed is made here: no other event needs it.
 // Not: the core before the event comes back; a tick handed keys of 0; the sums and the backup lent in each other's place.
-pub fn handle(
-    e: Event,
-    k: Core,
-    level: &mut Row,
-    decay: &mut Row,
-    activity: &mut Row,
-    frequency: &mut Row,
-    remainder: &mut Row,
-    soak: &mut Row,
-    sets: &[u32; 4],
-    assigned: &Row,
-    sums: &mut Sums,
-    building: &mut Sums,
-    backup: &mut Sums,
-    windows: &Windows,
-    regs: &mut Registers,
-) -> Stepped
-    ensures { wholly level decay activity frequency remainder soak (kept sets) (kept assigned) sums building backup (kept windows) regs (λ before after. Gives (before k) (event_of e) result.refusal (after result.core)) }
+pub fn handle(e: Event, u: &mut Unit) -> Result<(), Refusal>
+    ensures gives { Gives u.old (event_of e) (number result) u.new }
+    ensures buckets { u.new.buckets ≡ u.old.buckets }
+    ensures windows { u.new.windows ≡ u.old.windows }
 {
     match e {
         Event::Tick(mask, lock, x) => {
-            let words = *sets;
-            let set_of = *assigned;
-            let numbers = buckets::numbers_of(Buckets {
-                sets: words,
-                assigned: set_of,
-            });
-            let sizes = numbers.sizes;
-            let highs = numbers.highs;
-            let lows = numbers.lows;
-            let lasts = numbers.lasts;
-            let keys = candidates::keys_of(regs);
-            let floor = waits::delay_floor(registers::setting(regs, 0x43));
-            on_tick(
-                mask, lock, x, k, level, decay, activity, frequency, remainder, soak, &sizes,
-                &highs, &lows, &lasts, regs, &keys, floor, windows, sums, building,
-            )
+            let n = buckets::numbers_of(u.buckets);
+            let handed = selection::handed_by(&u.regs);
+            u.core = on_tick(
+                mask,
+                lock,
+                x,
+                u.core,
+                &mut u.monitors,
+                &n,
+                &u.regs,
+                &handed,
+                &u.windows,
+                &mut u.history,
+            )?;
         }
-        Event::Measurement(i, offset) => {
-            let refused = on_measurement(i, offset, frequency, regs);
-            Stepped {
-                refusal: refused,
-                core: k,
-            }
-        }
-        Event::Hit => on_hit(k, soak),
-        Event::Write(a, v) => {
-            let mut keys = [0u16; 9];
-            let mut handed = 0;
-            let copy = k;
-            let s = write(
-                a,
-                v,
-                copy,
-                regs,
-                &mut keys,
-                &mut handed,
-                sums,
-                building,
-                backup,
-            );
-            let next = s.core;
-            Stepped {
-                refusal: s.refusal,
-                core: next,
-            }
-        }
+        Event::Measurement(i, offset) => on_measurement(i, offset, &mut u.monitors, &u.regs)?,
+        Event::Hit => u.core = on_hit(u.core, &mut u.monitors)?,
+        Event::Write(a, v) => u.core = on_write(a, v, u.core, &mut u.regs, &mut u.history)?,
     }
+    Ok(())
 }

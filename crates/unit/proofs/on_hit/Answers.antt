@@ -1,31 +1,25 @@
 -- Accepted with a reference 1 to 8 selected, or turned down with 5.
-use mathlib.Core.Path.{refl, ap, ◌∙◌}
-use native.Mathlib.Omega.{arith}
+use Rattle.std.proofs.Common.{refl, arith, ap, ◌∙◌}
 use Rattle.rules.specs.Events.{hit}
 use Rattle.rules.specs.Refusals.{refusal}
 use Rattle.rules.specs.Run.{effect, after_hit}
 use Rattle.rules.specs.Selection.{unselected_loop}
 use Rattle.rules.specs.State.{with_inputs, with_loop, with_choice, with_history, with_holding}
-use Rattle.state.specs.Stored.{meaning, with_core}
+use Rattle.state.specs.Stored.{meaning, unit_of}
 use Rattle.unit.proofs.Given.{accepted, turned_down}
 use Rattle.unit.proofs.on_hit.Goals as goal
 
 pub returns-then-ok : goal.returns-then-ok
 unfolding refusal effect after_hit
-returns-then-ok c s =
-    let emptied = c in
-    let loop = c.before.before in
-    let ready = loop.before in
-    let hitting = ready.before in
-    let tested = hitting.before.before in
-    let k = tested.args.k in
-    accepted _ _ hit (rw (← tested.is_tracked-ok.ensures, tested.if-ok.true) refl) refl
+returns-then-ok c b h w regs =
+    accepted _ _ hit (rw (← c.is_input-ok.ensures.tracked, c.if-ok.true) refl) refl
     (λ i.
-    with_inputs (hitting.unsoak.ensures s.monitors i)
-    (with_loop ((loop.loop_after_hit-p.ensures ∙ ap unselected_loop (ready.is_ready.ensures s.history.sums s.history.building s.history.backup)) i)
-    (with_choice (c.settled-none.ensures i)
-    (with_history (c.open_emptied-t.ensures s.history.sums s.history.building s.history.backup i) (with_holding 0 (meaning (with_core k s)))))))
+    with_inputs (c.unsoak.ensures.inputs i)
+    (with_loop ((c.loop_after_hit.ensures ∙ ap unselected_loop (c.is_ready.ensures h.sums h.building h.backup)) i)
+    (with_choice (c.settled.ensures i)
+    (with_history (c.open_emptied.ensures h.sums h.building h.backup i)
+    (with_holding 0 (meaning (unit_of c.args.k c.args.m.now b h w regs)))))))
 
 pub returns : goal.returns
 unfolding refusal
-returns c s = turned_down _ hit (rw (← c.is_tracked-ok.ensures, c.if-ok.false) refl) (λ z. omega arith)
+returns c b h w regs = turned_down _ hit (rw (← c.is_input-ok.ensures.tracked, c.if-ok.false) refl) (λ z. omega arith)

@@ -1,11 +1,5 @@
 -- Accepted with a sample in range, or turned down with 7.
-use mathlib.Core.Path.{refl, ap}
-use native.Mathlib.Omega.{arith}
-use lib.Dec.{leb}
-use lib.IntN.{ℤ, nat_abs}
-use mir.Syntax.{w32}
-use mir.Val.{to_z, of_z}
-use mir.Facts.{to_z-of_z}
+use Rattle.std.proofs.Common.{refl, arith, ap, ℤ, nat_abs, leb, to_z, of_z, w32, to_z-of_z}
 use Rattle.rules.specs.Events.{tick_with, sample_limit}
 use Rattle.rules.specs.Refusals.{refusal}
 use Rattle.rules.specs.Run.{effect}
@@ -14,18 +8,16 @@ use Rattle.unit.proofs.on_tick.Goals as goal
 
 pub returns-then-ok : goal.returns-then-ok
 unfolding refusal effect
-returns-then-ok c s handed =
-    let t = c.before.before.before.before.before.before.before in
-    let start = t.before.before.before in
-    let a = start.args in
-    let told = to_z-of_z start.ranges.x in
+returns-then-ok c b suits =
+    let a = c.args in
+    let told = to_z-of_z c.ranges.x in
     same_event (λ i. tick_with a.mask a.lock (told i))
     (accepted _ _ (tick_with a.mask a.lock (to_z w32 (of_z w32 a.x)))
-    (rw (← t.in_range-ok.ensures, t.if-ok.true) refl) refl (c.tick-next.ensures s (record { lanes = handed.lanes; follows = handed.follows })))
+    (rw (← c.in_range-ok.ensures, c.if-ok.true) refl) refl (c.tick.ensures.rule b suits))
 
 pub returns : goal.returns
 unfolding refusal
-returns c s handed =
+returns c b suits =
     let a = c.args in
     turned_down _ (tick_with a.mask a.lock a.x)
     (rw (← ap (λ (x : ℤ). leb (nat_abs x) sample_limit) (to_z-of_z c.ranges.x), ← c.in_range-ok.ensures, c.if-ok.false) refl) (λ z. omega arith)
