@@ -1,167 +1,90 @@
-// The calls of a host that change a unit, each with the arrays of the unit lent that it needs: an event by its fields (document 01), and those that are no
-// events of a run sheet (document 02, #104: setting and assigning a set of bucket numbers; #107: setting the place in the week, and the windows). A refusal
-// leaves every stored number as it was.
+// The calls of a host that change a unit: an event by its fields (document 01), and those that are no events of a run sheet (document 02, #104: setting and
+// assigning a set of bucket numbers; #107: setting the place in the week, and the windows). Each is lent the unit or the parts of it that it may change. A
+// refusal leaves every stored number as it was.
 // Each contract is an equation with the rule `outcome` through crates/state/specs/Stored.antt.
 #![tactic(auto)]
 
+ghost use Rattle.std.specs.Prelude.{◌≡◌, List, ℕ};
 ghost use Rattle.rules.specs.Events.{set_bucket, assign_bucket, set_week, set_windows};
 ghost use Rattle.rules.specs.Sheet.{fields};
 ghost use Rattle.rules.specs.Week.{first_windows};
-ghost use Rattle.state.specs.Lent.{wholly};
-ghost use Rattle.state.specs.Stored.{Stored, with_core, with_windows};
+ghost use Rattle.refusals.specs.Number.{number};
+ghost use Rattle.buckets.specs.declared.Buckets as sets;
+ghost use Rattle.history.specs.declared.History.{History};
+ghost use Rattle.inputs.specs.Bridge.{with_activity};
+ghost use Rattle.inputs.specs.declared.Monitors as rows;
+ghost use Rattle.state.specs.Stored.{unit_of};
+ghost use Rattle.state.specs.declared.Core as core;
 ghost use Rattle.unit.specs.Given.{Leads, Gives, given};
-ghost use Rattle.calls.specs.Lent.{entering, leaving};
-ghost use Rattle.inputs.specs.Bridge.{kept};
 
-use arith::wide16;
-use buckets::{Buckets, Row};
-use fields::Decoded;
-use history::Sums;
-use registers::Registers;
-use state::Core;
-use unit::Stepped;
+use buckets::{Buckets, at_input};
+use inputs::Monitors;
+use refusals::Refusal;
+use state::{Core, Unit};
 use week::Windows;
 
-// One event, given by its fields: their number if they are no event.
+// One event, given by its fields: refused with their number if they are no event. Sets, assignments and windows stay.
 // Not: the sums and the backup lent in each other's place.
-pub fn event(
-    k: Core,
-    level: &mut Row,
-    decay: &mut Row,
-    activity: &mut Row,
-    frequency: &mut Row,
-    remainder: &mut Row,
-    soak: &mut Row,
-    sets: &[u32; 4],
-    assigned: &Row,
-    sums: &mut Sums,
-    building: &mut Sums,
-    backup: &mut Sums,
-    windows: &Windows,
-    regs: &mut Registers,
-    kind: u8,
-    a: u8,
-    b: u8,
-    word: i32,
-) -> Stepped
-    ensures { wholly level decay activity frequency remainder soak (kept sets) (kept assigned) sums building backup (kept windows) regs (λ before after. Leads (before k) (given (fields kind a b word)) result.refusal (after result.core)) }
+pub fn event(u: &mut Unit, kind: u8, a: u8, b: u8, word: i32) -> Result<(), Refusal>
+    ensures leads { Leads u.old (given (fields kind a b word)) (number result) u.new }
+    ensures buckets { u.new.buckets ≡ u.old.buckets }
+    ensures windows { u.new.windows ≡ u.old.windows }
 {
-    let d = fields::decode(kind, a, b, word);
-    let Decoded::Event(e) = d else {
-        return Stepped {
-            refusal: fields::number_of(d),
-            core: k,
-        };
-    };
-    unit::handle(
-        e, k, level, decay, activity, frequency, remainder, soak, sets, assigned, sums, building,
-        backup, windows, regs,
-    )
+    let e = fields::decode(kind, a, b, word)?;
+    unit::handle(e, u)
 }
 
-// Set n is set, or refusal 14.
+// Set n is set, or refusal 14. Of the rows levels, decay counts and activity alarms change, and no assignment.
 // Not: the sets left as they were; the inputs of another set put at size; set and size in each other's place.
 pub fn set_bucket(
-    level: &mut Row,
-    decay: &mut Row,
-    activity: &mut Row,
-    sets: &mut [u32; 4],
-    assigned: &Row,
+    m: &mut Monitors,
+    b: &mut Buckets,
     n: u8,
     size: u8,
     high: u8,
     low: u8,
     d: u8,
-) -> u8
-    ensures { (s : Stored) → Gives (entering level decay activity sets (kept assigned) s) (set_bucket n size high low d) result (leaving level decay activity sets (kept assigned) s) }
+) -> Result<(), Refusal>
+    ensures gives { (k : core.Core) (h : History) (w regs : List ℕ) → Gives (unit_of k m.old b.old h w regs) (set_bucket n size high low d) (number result) (unit_of k m.new b.new h w regs) }
+    ensures rows { m.new ≡ with_activity m.old m.new.level m.new.decay m.new.activity }
+    ensures assigned { b.new.assigned ≡ b.old.assigned }
 {
-    let number = buckets::set_refusal(n, size, high, low, d);
-    if number == 0 {
-        let old = *sets;
-        let set_of = *assigned;
-        let concerned = buckets::having(set_of, n);
-        let after = buckets::with_set(
-            Buckets {
-                sets: old,
-                assigned: set_of,
-            },
-            n,
-            size,
-            high,
-            low,
-            d,
-        );
-        let words = after.sets;
-        *sets = words;
-        inputs::put_at_size(level, decay, activity, concerned, wide16(size));
-        return 0;
-    }
-    number
+    buckets::check_set(n, size, high, low, d)?;
+    m.put_at_size(buckets::having(b.assigned, n), u16::from(size));
+    *b = buckets::with_set(*b, n, size, high, low, d);
+    Ok(())
 }
 
-// Input i is assigned set n, or the first of refusals 6 and 14 that fits.
+// Input i is assigned set n, or the first of refusals 6 and 14 that fits. Of the rows levels, decay counts and activity alarms change, and no set.
 // Not: the size of the set that the input had; every input put at size.
-pub fn assign_bucket(
-    level: &mut Row,
-    decay: &mut Row,
-    activity: &mut Row,
-    sets: &[u32; 4],
-    assigned: &mut Row,
-    i: u8,
-    n: u8,
-) -> u8
-    ensures { (s : Stored) → Gives (entering level decay activity (kept sets) assigned s) (assign_bucket i n) result (leaving level decay activity (kept sets) assigned s) }
+pub fn assign_bucket(m: &mut Monitors, b: &mut Buckets, i: u8, n: u8) -> Result<(), Refusal>
+    ensures gives { (k : core.Core) (h : History) (w regs : List ℕ) → Gives (unit_of k m.old b.old h w regs) (assign_bucket i n) (number result) (unit_of k m.new b.new h w regs) }
+    ensures rows { m.new ≡ with_activity m.old m.new.level m.new.decay m.new.activity }
+    ensures sets { b.new.sets ≡ b.old.sets }
 {
-    let number = buckets::assign_refusal(i, n);
-    if number == 0 {
-        let words = *sets;
-        let old = *assigned;
-        let b = Buckets {
-            sets: words,
-            assigned: old,
-        };
-        let none = [0; 8];
-        let concerned = buckets::at_input(none, i, 1);
-        let size = buckets::size_of(b, n);
-        let after = buckets::with_assigned(b, i, n);
-        let set_of = after.assigned;
-        *assigned = set_of;
-        inputs::put_at_size(level, decay, activity, concerned, size);
-        return 0;
-    }
-    number
+    buckets::check_assign(i, n)?;
+    let concerned = at_input([0; 8], u32::from(i), [1; 8]);
+    m.put_at_size(concerned, buckets::size_of(*b, n));
+    *b = buckets::with_assigned(*b, i, n);
+    Ok(())
 }
 
 // The place in the week is set, or refusal 16.
 // Not: 4,725,000 let through; the wait put at 0.
-pub fn set_week(k: Core, place: u32) -> Stepped
-    ensures { (s : Stored) → Gives (with_core k s) (set_week place) result.refusal (with_core result.core s) }
+pub fn set_week(k: &mut Core, place: u32) -> Result<(), Refusal>
+    ensures { (m : rows.Monitors) (b : sets.Buckets) (h : History) (w regs : List ℕ) → Gives (unit_of k.old m b h w regs) (set_week place) (number result) (unit_of k.new m b h w regs) }
 {
-    let number = week::week_refusal(place);
-    if number == 0 {
-        let mut next = k;
-        next.place = place;
-        return Stepped {
-            refusal: 0,
-            core: next,
-        };
-    }
-    Stepped {
-        refusal: number,
-        core: k,
-    }
+    week::check_week(place)?;
+    k.place = place;
+    Ok(())
 }
 
 // The first `count` windows are set, or refusal 16.
 // Not: every count taken as 0; the numbers stored on a refusal.
-pub fn set_windows(stored: &mut Windows, count: u8, windows: &Windows) -> u8
-    ensures { (s : Stored) → Gives (with_windows stored.old s) (set_windows (first_windows count windows.now)) result (with_windows stored.new s) }
+pub fn set_windows(stored: &mut Windows, count: u8, windows: &Windows) -> Result<(), Refusal>
+    ensures { (k : core.Core) (m : rows.Monitors) (b : sets.Buckets) (h : History) (regs : List ℕ) → Gives (unit_of k m b h stored.old regs) (set_windows (first_windows count windows.now)) (number result) (unit_of k m b h stored.new regs) }
 {
-    let number = week::windows_refusal(count, windows);
-    if number == 0 {
-        let kept = week::kept(count, windows);
-        *stored = kept;
-        return 0;
-    }
-    number
+    week::check_windows(count, windows)?;
+    *stored = week::kept(count, windows);
+    Ok(())
 }

@@ -1,6 +1,6 @@
 // The unit's state lent by the host (document 01: "The host owns the unit's state and lends it for each event; the event updates it and touches nothing
-// else"). Eight functions are exported to C and Rust. Each lends the arrays of the unit on, where they lie, to the function that does the work; a new core is
-// stored only if the number is 0.
+// else"). Eight functions are exported to C and Rust. Each lends the unit on, or the parts of it that are needed, to the function that does the work, and gives
+// the number of a refusal, or 0.
 #![tactic(auto)]
 
 ghost use Rattle.rules.specs.Events.{set_bucket, assign_bucket, set_week, set_windows};
@@ -12,6 +12,7 @@ ghost use Rattle.state.specs.Stored.{Made};
 ghost use Rattle.unit.specs.Given.{Leads, given};
 ghost use Rattle.readout.specs.Shows.{Shows};
 
+use refusals::number;
 use state::Unit;
 use week::Windows;
 
@@ -21,21 +22,7 @@ use week::Windows;
 pub extern "C" fn unit_make(u: &mut Unit)
     ensures { Made u.new }
 {
-    u.core = state::make(
-        &mut u.monitors.level,
-        &mut u.monitors.decay,
-        &mut u.monitors.activity,
-        &mut u.monitors.frequency,
-        &mut u.monitors.remainder,
-        &mut u.monitors.soak,
-        &mut u.buckets.sets,
-        &mut u.buckets.assigned,
-        &mut u.history.sums,
-        &mut u.history.building,
-        &mut u.history.backup,
-        &mut u.windows,
-        &mut u.regs,
-    );
+    u.make();
 }
 
 // A lent unit is made anew of a table of bytes, of any length: 15 or 0. A refusal stores nothing.
@@ -44,27 +31,7 @@ pub extern "C" fn unit_make(u: &mut Unit)
 pub extern "C" fn unit_load(u: &mut Unit, table: &[u8]) -> u8
     ensures { Leads u.old (loading table.now) result u.new }
 {
-    let made = loading::load(
-        u.core,
-        &mut u.monitors.level,
-        &mut u.monitors.decay,
-        &mut u.monitors.activity,
-        &mut u.monitors.frequency,
-        &mut u.monitors.remainder,
-        &mut u.monitors.soak,
-        &mut u.buckets.sets,
-        &mut u.buckets.assigned,
-        &mut u.history.sums,
-        &mut u.history.building,
-        &mut u.history.backup,
-        &mut u.windows,
-        &mut u.regs,
-        table,
-    );
-    if made.refusal == 0 {
-        u.core = made.core;
-    }
-    made.refusal
+    number(loading::load(u, table))
 }
 
 // One event on a lent unit: the refusal number, 0 if it is accepted. A refusal stores nothing.
@@ -73,30 +40,7 @@ pub extern "C" fn unit_load(u: &mut Unit, table: &[u8]) -> u8
 pub extern "C" fn unit_event(u: &mut Unit, kind: u8, a: u8, b: u8, word: i32) -> u8
     ensures { Leads u.old (given (fields kind a b word)) result u.new }
 {
-    let s = calls::event(
-        u.core,
-        &mut u.monitors.level,
-        &mut u.monitors.decay,
-        &mut u.monitors.activity,
-        &mut u.monitors.frequency,
-        &mut u.monitors.remainder,
-        &mut u.monitors.soak,
-        &u.buckets.sets,
-        &u.buckets.assigned,
-        &mut u.history.sums,
-        &mut u.history.building,
-        &mut u.history.backup,
-        &u.windows,
-        &mut u.regs,
-        kind,
-        a,
-        b,
-        word,
-    );
-    if s.refusal == 0 {
-        u.core = s.core;
-    }
-    s.refusal
+    number(calls::event(u, kind, a, b, word))
 }
 
 // A set of bucket numbers of a lent unit is set: 14 or 0. A refusal stores nothing.
@@ -112,18 +56,15 @@ pub extern "C" fn unit_set_bucket(
 ) -> u8
     ensures { Leads u.old (given (sheet.event (set_bucket set size set_level clear_level decay))) result u.new }
 {
-    calls::set_bucket(
-        &mut u.monitors.level,
-        &mut u.monitors.decay,
-        &mut u.monitors.activity,
-        &mut u.buckets.sets,
-        &u.buckets.assigned,
+    number(calls::set_bucket(
+        &mut u.monitors,
+        &mut u.buckets,
         set,
         size,
         set_level,
         clear_level,
         decay,
-    )
+    ))
 }
 
 // An input of a lent unit is assigned a set: 6, 14 or 0. A refusal stores nothing.
@@ -132,15 +73,7 @@ pub extern "C" fn unit_set_bucket(
 pub extern "C" fn unit_assign_bucket(u: &mut Unit, input: u8, set: u8) -> u8
     ensures { Leads u.old (given (sheet.event (assign_bucket input set))) result u.new }
 {
-    calls::assign_bucket(
-        &mut u.monitors.level,
-        &mut u.monitors.decay,
-        &mut u.monitors.activity,
-        &u.buckets.sets,
-        &mut u.buckets.assigned,
-        input,
-        set,
-    )
+    number(calls::assign_bucket(&mut u.monitors, &mut u.buckets, input, set))
 }
 
 // The place in the week of a lent unit is set: 16 or 0. A refusal stores nothing.
@@ -149,11 +82,7 @@ pub extern "C" fn unit_assign_bucket(u: &mut Unit, input: u8, set: u8) -> u8
 pub extern "C" fn unit_set_week(u: &mut Unit, place: u32) -> u8
     ensures { Leads u.old (given (sheet.event (set_week place))) result u.new }
 {
-    let placed = calls::set_week(u.core, place);
-    if placed.refusal == 0 {
-        u.core = placed.core;
-    }
-    placed.refusal
+    number(calls::set_week(&mut u.core, place))
 }
 
 // The windows of a lent unit are set: 16 or 0. A refusal stores nothing.
@@ -162,7 +91,7 @@ pub extern "C" fn unit_set_week(u: &mut Unit, place: u32) -> u8
 pub extern "C" fn unit_set_windows(u: &mut Unit, count: u8, windows: &Windows) -> u8
     ensures { Leads u.old (given (sheet.event (set_windows (first_windows count windows.now)))) result u.new }
 {
-    calls::set_windows(&mut u.windows, count, windows)
+    number(calls::set_windows(&mut u.windows, count, windows))
 }
 
 // A read of a lent unit: 256 times the refusal, plus the byte.
@@ -171,5 +100,5 @@ pub extern "C" fn unit_set_windows(u: &mut Unit, count: u8, windows: &Windows) -
 pub extern "C" fn unit_read(u: &Unit, address: u8) -> u16
     ensures { Shows u.now address result }
 {
-    readout::read(u.core, &u.monitors.soak, &u.history.sums, &u.regs, address)
+    readout::word(readout::read(u, address))
 }

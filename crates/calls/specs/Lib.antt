@@ -1,2 +1,0 @@
--- What the contracts of the calls cite.
-pub mod Lent
