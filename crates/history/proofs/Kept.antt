@@ -1,5 +1,5 @@
 -- Block sums, as the arrays hold them.
-use Rattle.std.proofs.Common.{arith, ◌≡◌, ◌+◌, ◌-◌, ◌*◌, ◌≤◌, min, ℕ, zero, suc, List, [], ◌∷◌, length, take, get_or, refl, ap, sym, ◌∙◌}
+use Rattle.std.proofs.Common.{arith, ◌≡◌, ◌+◌, ◌*◌, ◌≤◌, min, ℕ, zero, suc, List, [], ◌∷◌, length, take, get_or, length-take, refl, ap, sym, ◌∙◌}
 use native.Mathlib.Numerals.{unary_clauses}
 use lib.Dec.{leb}
 use lib.IntN.{ℤ, pos, nat_abs, ◌+ℤ◌, +ℤ_idl, +ℤ_idr, +ℤ_assoc}
@@ -15,24 +15,21 @@ unfolding first_sums
 first_take zero k l h = refl
 first_take (suc m) zero l h = absurd (omega arith)
 first_take (suc m) (suc k) [] h = refl
-first_take (suc m) (suc k) (x ∷ l) h = ap (λ (t : List ℤ). saturated x ∷ t) (first_take m k l (omega arith))
+first_take (suc m) (suc k) (x ∷ l) h = ap (λ t. saturated x ∷ t) (first_take m k l (omega arith))
 
 take_first : (m n : ℕ) (l : List ℤ) → take m (first_sums n l) ≡ first_sums (min m n) l
 unfolding first_sums
 take_first zero n l = simp unary_clauses refl
 take_first (suc m) zero l = simp unary_clauses refl
-take_first (suc m) (suc n) [] = simp unary_clauses (ap (λ (t : List ℤ). pos 0 ∷ t) (take_first m n []))
-take_first (suc m) (suc n) (x ∷ l) = simp unary_clauses (ap (λ (t : List ℤ). saturated x ∷ t) (take_first m n l))
+take_first (suc m) (suc n) [] = simp unary_clauses (ap (λ t. pos 0 ∷ t) (take_first m n []))
+take_first (suc m) (suc n) (x ∷ l) = simp unary_clauses (ap (λ t. saturated x ∷ t) (take_first m n l))
 
 -- the latest 64 are kept
 pub kept_push : (x : ℤ) (sums : List ℤ) (count more : ℕ) → more ≡ min 64 (count + 1) → kept_of (pushed x sums) more ≡ take 64 (saturated x ∷ kept_of sums count)
 unfolding first_sums
 kept_push x sums count more e =
     let up : min more 64 ≡ suc (min 63 count) = omega arith in
-    let most : min 63 count ≡ min 63 (min count 64) = omega arith in
-    let first : first_sums (min 63 count) (take 63 sums) ≡ first_sums (min 63 count) sums = first_take (min 63 count) 63 sums (omega arith) in
-    let few : take 63 (first_sums (min count 64) sums) ≡ first_sums (min 63 (min count 64)) sums = take_first 63 (min count 64) sums in
-    rw up cc
+    rw up (grind (arith, first_take (min 63 count) 63 sums (omega arith), take_first 63 (min count 64) sums))
 
 -- ---- how many are kept
 
@@ -45,6 +42,10 @@ first_length (suc n) (x ∷ l) = ap suc (first_length n l)
 -- as many as the count says, and at most 64
 pub kept_length : (sums : List ℤ) (count : ℕ) → length (kept_of sums count) ≡ min count 64
 kept_length sums count = first_length (min count 64) sums
+
+-- and with one more
+pub pushed_length : (x : ℤ) (sums : List ℤ) (count : ℕ) → length (take 64 (saturated x ∷ kept_of sums count)) ≡ min 64 (count + 1)
+pushed_length x sums count = omega (arith, length-take 64 (saturated x ∷ kept_of sums count), kept_length sums count)
 
 pub ready_kept : (sums : List ℤ) (count : ℕ) → leb 43 count ≡ leb 43 (length (kept_of sums count))
 ready_kept sums count = grind (arith, kept_length sums count)
