@@ -1,8 +1,9 @@
 -- Block sums, as the arrays hold them.
-use Rattle.std.proofs.Common.{arith, ◌≡◌, ◌+◌, ◌*◌, ◌≤◌, min, ℕ, zero, suc, List, [], ◌∷◌, length, take, get_or, length-take, refl, ap, sym, ◌∙◌}
+use Rattle.std.proofs.Common.{arith, ◌≡◌, ◌+◌, ◌*◌, ◌≤◌, min, ℕ, zero, suc, List, [], ◌∷◌, length, take, get_or, length-take, FitsSigned, w64, refl, ap}
 use native.Mathlib.Numerals.{unary_clauses}
+use Rattle.std.proofs.lemmas.Int.{fits_signed_from_abs, ints}
 use lib.Dec.{leb}
-use lib.IntN.{ℤ, pos, nat_abs, ◌+ℤ◌, +ℤ_idl, +ℤ_idr, +ℤ_assoc}
+use lib.IntN.{ℤ, pos, nat_abs, ◌+ℤ◌}
 use Rattle.rules.specs.History.{sum_limit, saturated, sum_of}
 use Rattle.rules.proofs.Integers.{natAbs-+, saturated_le}
 use Rattle.history.specs.Bridge.{first_sums, kept_of, pushed}
@@ -10,7 +11,7 @@ use Rattle.history.specs.Bridge.{first_sums, kept_of, pushed}
 -- ---- pushing a sum
 
 -- of the first k, the first m are the first m
-first_take : (m k : ℕ) (l : List ℤ) → m ≤ k → first_sums m (take k l) ≡ first_sums m l
+pub first_take : (m k : ℕ) (l : List ℤ) → m ≤ k → first_sums m (take k l) ≡ first_sums m l
 unfolding first_sums
 first_take zero k l h = refl
 first_take (suc m) zero l h = absurd (omega arith)
@@ -56,9 +57,9 @@ ready_kept sums count = grind (arith, kept_length sums count)
 pub sum_more : (sums : List ℤ) (i : ℕ) → sum_of (first_sums i sums) +ℤ saturated (get_or sums i (pos 0)) ≡ sum_of (first_sums (suc i) sums)
 unfolding sum_of first_sums saturated
 sum_more [] zero = refl
-sum_more [] (suc i) = +ℤ_assoc (pos 0) (sum_of (first_sums i [])) (pos 0) ∙ ap (λ (z : ℤ). pos 0 +ℤ z) (sum_more [] i)
-sum_more (x ∷ l) zero = +ℤ_idl (saturated x) ∙ sym (+ℤ_idr (saturated x))
-sum_more (x ∷ l) (suc i) = +ℤ_assoc (saturated x) _ _ ∙ ap (λ (z : ℤ). saturated x +ℤ z) (sum_more l i)
+sum_more [] (suc i) = omega (arith, ints, sum_more [] i)
+sum_more (x ∷ l) zero = omega (arith, ints)
+sum_more (x ∷ l) (suc i) = omega (arith, ints, sum_more l i)
 
 -- each within the limit, so their sum is within the limit as often
 pub sum_le : (sums : List ℤ) (n : ℕ) → nat_abs (sum_of (first_sums n sums)) ≤ n * sum_limit
@@ -66,3 +67,6 @@ unfolding sum_of first_sums
 sum_le sums zero = omega arith
 sum_le [] (suc n) = omega (arith, natAbs-+ (pos 0) (sum_of (first_sums n [])), sum_le [] n)
 sum_le (x ∷ l) (suc n) = omega (arith, natAbs-+ (saturated x) (sum_of (first_sums n l)), saturated_le x, sum_le l n)
+
+pub sum_fits : (sums : List ℤ) (n : ℕ) → n ≤ 64 → FitsSigned w64 (sum_of (first_sums n sums))
+sum_fits sums n h = fits_signed_from_abs w64 (sum_of (first_sums n sums)) (omega (arith, sum_le sums n))
