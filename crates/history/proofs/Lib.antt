@@ -1,3 +1,2 @@
 -- Laws that the proofs share.
-pub mod Sums
 pub mod Kept

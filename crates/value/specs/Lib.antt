@@ -1,2 +1,0 @@
--- What the contracts of the value cite.
-pub mod Signed
