@@ -1,106 +1,116 @@
 -- Windows taken one after another from numbers that are start and end in turn, and the check of each.
-use Prim.Native.Nat.{ℕ, zero, suc, ◌+◌, ◌-◌, ◌*◌, ◌≤◌, ◌<◌}
-use mathlib.Core.Path.{◌≡◌, refl, ap, sym, ◌∙◌}
-use mathlib.Core.Bool.{Bool, true, false, ◌&&◌, ◌||◌}
-use mathlib.Core.List.{List, [], ◌∷◌}
-use native.Mathlib.Omega.{arith}
-use native.Mathlib.Nat.{not-suc-le-zero}
+use Rattle.std.proofs.Common.{◌≡◌, ℕ, zero, suc, ◌+◌, ◌-◌, ◌*◌, ◌/◌, ◌≤◌, ◌<◌, Bool, false, ◌&&◌, ◌||◌, List, [], ◌∷◌, map, length, get_or, take, drop, refl, ap, sym, ◌∙◌, arith, add-one, drop-cons, get_or-drop, if◌then◌else◌}
+use Rattle.std.proofs.lemmas.Grind.{common_steps}
+use Rattle.std.proofs.lemmas.List.{get_or-take, length-map, take-map}
+use Rattle.std.specs.List.{list_any}
+use Rattle.std.specs.Simd.{first_chunks}
 use lib.Dec.{leb, ltb, eqb}
-use lib.ListN.{length, get_or}
-use borrow.Author.Tests.{leb-true, ltb-false, lt-leb, le-leb, le-ltb}
+use borrow.Author.Tests.{lt-leb}
 use Rattle.rules.specs.Week.{week_ticks, Window, in_window, busy, is_window, ascending, starts_week, last_end, ends_week, windows_fit, window_at, windows_from, first_windows}
 use Rattle.rules.specs.Refusals.{windows_refusal}
-use Rattle.rules.proofs.Tests.{by_test, and_false, and_left, and_right}
-use Rattle.week.specs.Bridge.{standing}
+use Rattle.week.specs.Bridge.{window_of, windows_of, standing}
 
--- ---- busy hours
+-- ---- numbers in pairs
 
-pub or_none : (a : Bool) → a ≡ (a || false)
-or_none true = refl
-or_none false = refl
-
--- a pair whose start is not before its end blocks nothing
-empty_free : (w : Window) (p : ℕ) → ltb w.start w.end ≡ false → in_window p w ≡ false
-unfolding in_window
-empty_free w p e =
-    by_test (leb w.start p)
-    (λ t. rw (le-ltb p w.end (omega (arith, ltb-false w.start w.end e, leb-true w.start p t)), and_false (leb w.start p)) refl) (λ t. rw t refl)
-
-pub busy_standing : (ws : List Window) (p : ℕ) → busy (standing ws) p ≡ busy ws p
-unfolding standing busy
-busy_standing [] p = refl
-busy_standing (w ∷ ws) p =
-    by_test (ltb w.start w.end) (λ e. rw e (ap (λ (b : Bool). in_window p w || b) (busy_standing ws p))) (λ e. rw (e, empty_free w p e) (busy_standing ws p))
-
--- ---- one window more
-
-pub next_window : (n k : ℕ) (l : List ℕ) → k < n → windows_from (n - k) k l ≡ (window_at k l ∷ windows_from (n - (k + 1)) (k + 1) l)
+-- the windows of the pairs of some numbers, which are those of a list from window k on
+pairs_from : (n k : ℕ) (l r : List ℕ) → ((j : ℕ) → get_or r j 0 ≡ get_or l (2 * k + j) 0) → map window_of (first_chunks 2 n r) ≡ windows_from n k l
 unfolding windows_from
-next_window n k l h = let one : n - k ≡ suc (n - (k + 1)) = omega arith in ap (λ (m : ℕ). windows_from m k l) one
+pairs_from zero k l r same = refl
+pairs_from (suc n) k l r same =
+    let start : get_or (take 2 r) 0 0 ≡ get_or l (2 * k) 0 = get_or-take 2 r 0 0 (omega arith) ∙ same 0 ∙ ap (λ j. get_or l j 0) (omega arith) in
+    let end : get_or (take 2 r) 1 0 ≡ get_or l (2 * k + 1) 0 = get_or-take 2 r 1 0 (omega arith) ∙ same 1 in
+    λ i. record { start = start i; end = end i }
+    ∷ pairs_from n (k + 1) l (drop 2 r) (λ j. get_or-drop 2 r j 0 ∙ same (2 + j) ∙ ap (λ m. get_or l m 0) (omega arith)) i
 
--- none is left
-pub no_window : (n k : ℕ) (l : List ℕ) → n ≤ k → windows_from (n - k) k l ≡ []
-unfolding windows_from
-no_window n k l h = let none : n - k ≡ 0 = omega arith in ap (λ (m : ℕ). windows_from m k l) none
+-- the eight windows of sixteen numbers
+pub eight_pairs : (l : List ℕ) (ps : List (List ℕ)) → length l ≡ 16 → ps ≡ first_chunks 2 (length l / 2) l → map window_of ps ≡ first_windows 8 l
+eight_pairs l ps n e =
+    let eight : length l / 2 ≡ 8 = ap (λ k. k / 2) n in
+    rw (e, eight) (pairs_from 8 0 l l (λ j. ap (λ k. get_or l k 0) (omega arith)))
 
 pub length_from : (n k : ℕ) (l : List ℕ) → length (windows_from n k l) ≡ n
 unfolding windows_from
 length_from zero k l = refl
 length_from (suc n) k l = ap suc (length_from n (k + 1) l)
 
--- the end of the last
-pub last_end_from : (n k end : ℕ) (l : List ℕ) → last_end end (windows_from (suc n) k l) ≡ get_or l (2 * (k + n) + 1) 0
-unfolding windows_from last_end
-last_end_from zero k end l = let here : k ≡ k + 0 = omega arith in ap (λ (m : ℕ). get_or l (2 * m + 1) 0) here
-last_end_from (suc n) k end l = let there : k + 1 + n ≡ k + suc n = omega arith in last_end_from n (k + 1) (get_or l (2 * k + 1) 0) l ∙ ap (λ (m : ℕ). get_or l (2 * m + 1) 0) there
+pub pairs_long : (ps : List (List ℕ)) (l : List ℕ) → map window_of ps ≡ first_windows 8 l → length ps ≡ 8
+pairs_long ps l e = sym (length-map ps window_of) ∙ ap length e ∙ length_from 8 0 l
 
--- "first at 0 with last ending the week", of one window or more
-pub meets : (n : ℕ) (l : List ℕ) → 1 ≤ n
-    → (eqb (get_or l 0 0) 0 && eqb (get_or l (2 * n - 1) 0) week_ticks) ≡ (starts_week (first_windows n l) && ends_week (first_windows n l))
-unfolding starts_week ends_week windows_from
-meets zero l h = absurd (not-suc-le-zero h)
-meets (suc n) l h =
-    let last : 2 * suc n - 1 ≡ 2 * (0 + n) + 1 = omega arith in
-    ap (λ (e : ℕ). eqb (get_or l 0 0) 0 && eqb e week_ticks) (ap (λ (m : ℕ). get_or l m 0) last ∙ sym (last_end_from n 0 0 l))
+-- the first of them
+first_of : (n count k : ℕ) (l : List ℕ) → count ≤ n → take count (windows_from n k l) ≡ windows_from count k l
+unfolding windows_from
+first_of n zero k l h = refl
+first_of zero (suc c) k l h = absurd (omega arith)
+first_of (suc n) (suc c) k l h = ap (λ ws. window_at k l ∷ ws) (first_of n c (k + 1) l (omega arith))
+
+-- ---- busy hours
+
+-- a pair whose start is not before its end blocks nothing
+empty_free : (w : Window) (p : ℕ) → ltb w.start w.end ≡ false → in_window p w ≡ false
+unfolding in_window
+empty_free w p e = grind (arith, common_steps)
+
+busy_standing : (ws : List Window) (p : ℕ) → busy (standing ws) p ≡ busy ws p
+unfolding standing busy
+busy_standing [] p = refl
+busy_standing (w ∷ ws) p =
+    let rest = busy_standing ws p in
+    let none = empty_free w p in
+    grind (arith, common_steps)
+
+any_busy : (ps : List (List ℕ)) (p : ℕ) → list_any (λ w. leb (get_or w 0 0) p && ltb p (get_or w 1 0)) ps ≡ busy (map window_of ps) p
+unfolding busy in_window
+any_busy [] p = refl
+any_busy (w ∷ ps) p = ap (λ b. leb (get_or w 0 0) p && ltb p (get_or w 1 0) || b) (any_busy ps p)
+
+pub busy_pairs : (ps : List (List ℕ)) (l : List ℕ) (p : ℕ) → map window_of ps ≡ first_windows 8 l
+    → list_any (λ w. leb (get_or w 0 0) p && ltb p (get_or w 1 0)) ps ≡ busy (windows_of l) p
+busy_pairs ps l p e = any_busy ps p ∙ ap (λ ws. busy ws p) e ∙ sym (busy_standing (first_windows 8 l) p)
 
 -- ---- the check of one window
 
--- it starts at `from` or later, and is a window of the week
-abbrev pub fits : ℕ → Window → Bool
-fits from w = leb from w.start && (ltb w.start w.end && leb w.end week_ticks)
+-- what is left of the windows begins with the one at i
+pub ascending_at : (ws : List (List ℕ)) (i from : ℕ) → i < length ws
+    → ascending from (map window_of (drop i ws))
+    ≡ (leb from (get_or (get_or ws i []) 0 0) && (is_window (window_of (get_or ws i [])) && ascending (get_or (get_or ws i []) 1 0 + 1) (map window_of (drop (i + 1) ws))))
+unfolding ascending
+ascending_at ws i from h = rw (drop-cons ws i [], add-one i) refl
 
-pub refused_here : (from : ℕ) (w : Window) (ws : List Window) → fits from w ≡ false → ascending from (w ∷ ws) ≡ false
-unfolding ascending is_window
-refused_here from w ws e = three (leb from w.start) (ltb w.start w.end && leb w.end week_ticks) (ascending (w.end + 1) ws) e
-  where
-    three : (a b c : Bool) → (a && b) ≡ false → (a && (b && c)) ≡ false
-    three true b c z = rw z refl
-    three false b c z = refl
+-- ---- the first and the last
 
-pub passed_here : (from : ℕ) (w : Window) (ws : List Window) → fits from w ≡ true → ascending from (w ∷ ws) ≡ ascending (w.end + 1) ws
-unfolding ascending is_window
-passed_here from w ws e = rw (and_left (leb from w.start) _ e, and_right (leb from w.start) (ltb w.start w.end && leb w.end week_ticks) e) refl
+pub starts_at : (ws : List (List ℕ)) → 0 < length ws → starts_week (map window_of ws) ≡ eqb (get_or (get_or ws 0 []) 0 0) 0
+unfolding starts_week
+starts_at [] h = absurd (omega arith)
+starts_at (w ∷ ws) h = refl
 
--- its end is not past the week's
-pub fits_end : (from : ℕ) (w : Window) → fits from w ≡ true → w.end ≤ week_ticks
-fits_end from w e = leb-true w.end week_ticks (and_right (ltb w.start w.end) _ (and_right (leb from w.start) _ e))
+last_at : (ws : List (List ℕ)) (w : List ℕ) → last_end (get_or w 1 0) (map window_of ws) ≡ get_or (get_or (w ∷ ws) (length ws) []) 1 0
+unfolding last_end
+last_at [] w = refl
+last_at (v ∷ ws) w = last_at ws v
 
--- ---- the number, by the three tests
+pub ends_at : (ws : List (List ℕ)) → 0 < length ws → ends_week (map window_of ws) ≡ eqb (get_or (get_or ws (length ws - 1) []) 1 0) week_ticks
+unfolding ends_week last_end
+ends_at [] h = absurd (omega arith)
+ends_at (w ∷ ws) h =
+    let last : length ws ≡ suc (length ws) - 1 = omega arith in
+    ap (λ e. eqb e week_ticks) (last_at ws w ∙ ap (λ k. get_or (get_or (w ∷ ws) k []) 1 0) last)
 
-module _ (count : ℕ) (l : List ℕ) where
-  pub too_many : 8 < count → 16 ≡ windows_refusal (first_windows count l)
-  unfolding windows_refusal windows_fit
-  too_many h = rw (length_from count 0 l, lt-leb count 8 h) refl
+pub none_start : (ws : List (List ℕ)) → length ws ≡ 0 → (starts_week (map window_of ws) && ends_week (map window_of ws)) ≡ false
+unfolding starts_week
+none_start [] h = refl
+none_start (w ∷ ws) h = absurd (omega arith)
 
-  pub not_ascending : ascending 0 (first_windows count l) ≡ false → 16 ≡ windows_refusal (first_windows count l)
-  unfolding windows_refusal windows_fit
-  not_ascending e = rw (e, and_false (leb (length (first_windows count l)) 8)) refl
+-- ---- the check of all
 
-  pub around : (starts_week (first_windows count l) && ends_week (first_windows count l)) ≡ true → 16 ≡ windows_refusal (first_windows count l)
-  unfolding windows_refusal windows_fit
-  around e = rw (e, and_false (ascending 0 (first_windows count l)), and_false (leb (length (first_windows count l)) 8)) refl
+pub too_many : (count : ℕ) (l : List ℕ) → 8 < count → windows_refusal (first_windows count l) ≡ 16
+unfolding windows_refusal windows_fit
+too_many count l h = rw (length_from count 0 l, lt-leb count 8 h) refl
 
-  pub none_wrong : count ≤ 8 → ascending 0 (first_windows count l) ≡ true → (starts_week (first_windows count l) && ends_week (first_windows count l)) ≡ false
-      → 0 ≡ windows_refusal (first_windows count l)
-  unfolding windows_refusal windows_fit
-  none_wrong h e f = rw (length_from count 0 l, le-leb count 8 h, e, f) refl
+-- no more than eight
+pub few : (count : ℕ) (l : List ℕ) (ps given : List (List ℕ)) (fit : Bool) → map window_of ps ≡ first_windows 8 l → count ≤ 8 → given ≡ take count ps
+    → (length given ≤ 8 → fit ≡ windows_fit (map window_of given)) → windows_refusal (first_windows count l) ≡ (if fit then 0 else 16)
+unfolding windows_refusal
+few count l ps given fit e h g f =
+    let same : map window_of given ≡ first_windows count l = ap (map window_of) g ∙ sym (take-map window_of count ps) ∙ ap (take count) e ∙ first_of 8 count 0 l h in
+    let long : length given ≡ count = sym (length-map given window_of) ∙ ap length same ∙ length_from count 0 l in
+    rw (f (omega arith), same)

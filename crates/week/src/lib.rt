@@ -2,13 +2,14 @@
 // windows that pass it. Places and windows are in ticks from the week's start.
 #![tactic(auto)]
 
-ghost use Rattle.std.specs.Prelude.{◌≡◌, ◌&&◌, [], ◌+◌, ◌≤◌, leb, ltb, if◌then◌else◌};
+ghost use Rattle.std.specs.Prelude.{◌≡◌, ◌&&◌, ◌≤◌, [], map, length};
 ghost use Rattle.rules.specs.Week as rules;
-ghost use Rattle.rules.specs.Week.{week_ticks, ascending, starts_week, ends_week, first_windows};
+ghost use Rattle.rules.specs.Week.{ascending, starts_week, ends_week, windows_fit, first_windows};
 ghost use Rattle.rules.specs.Refusals.{week_refusal, windows_refusal};
-ghost use Rattle.week.specs.Bridge.{windows_of, kept_numbers};
+ghost use Rattle.refusals.specs.Number.{number};
+ghost use Rattle.week.specs.Bridge.{window_of, windows_of, kept_numbers};
 
-use arith::{both, one_of, wide64};
+use refusals::Refusal;
 
 // "A week is 4,725,000 ticks".
 const WEEK: u32 = 4_725_000;
@@ -18,6 +19,7 @@ pub type Windows = [u32; 16];
 
 // "with no windows"
 // Not: a window of the week's first tick; a window of the whole week.
+#[tactic(auto, unfolding(rules::specs::Week::windows_from, crate::specs::Bridge::standing))]
 pub fn no_windows() -> Windows
     ensures { windows_of result ≡ [] }
 {
@@ -26,45 +28,27 @@ pub fn no_windows() -> Windows
 
 // ---- the place
 
-// "each from its first tick up to but not including its end"
-fn in_window(start: u32, end: u32, place: u32) -> bool
-    ensures { result ≡ (leb start place && ltb place end) }
+// The windows, each a pair of its start and its end.
+#[tactic(auto, using(crate::proofs::Windows::eight_pairs))]
+fn pairs(windows: &Windows) -> &[[u32; 2]]
+    ensures { map window_of result.now ≡ first_windows 8 windows.now }
 {
-    both(start <= place, place < end)
+    windows.as_chunks::<2>().0
 }
 
-// The rule `busy`: the place lies in one of the windows.
+// The rule `busy`: the place lies in one of the windows, "each from its first tick up to but not including its end".
 // Not: a window's end blocks too; the eighth window left out.
 pub fn is_busy(windows: &Windows, place: u32) -> bool
     ensures { result ≡ rules.busy (windows_of windows.now) place }
 {
-    let w = *windows;
-    one_of(
-        in_window(w[0], w[1], place),
-        one_of(
-            in_window(w[2], w[3], place),
-            one_of(
-                in_window(w[4], w[5], place),
-                one_of(
-                    in_window(w[6], w[7], place),
-                    one_of(
-                        in_window(w[8], w[9], place),
-                        one_of(
-                            in_window(w[10], w[11], place),
-                            one_of(
-                                in_window(w[12], w[13], place),
-                                in_window(w[14], w[15], place),
-                            ),
-                        ),
-                    ),
-                ),
-            ),
-        ),
-    )
+    pairs(windows)
+        .iter()
+        .any(|[start, end]| *start <= place && place < *end)
 }
 
 // The rule `advanced`: the place after a tick.
 // Not: 4,725,000 after the week's last place; a stored place past the end goes on.
+#[tactic(auto, unfolding(rules::specs::Week::advanced))]
 pub fn advanced(place: u32) -> u32
     ensures { result ≡ rules.advanced place }
 {
@@ -73,85 +57,72 @@ pub fn advanced(place: u32) -> u32
 
 // ---- the check
 
-// 16 for a place of 4,725,000 or more, else 0.
+// Turned down with 16: a place of 4,725,000 or more.
 // Not: 4,725,000 passes; 4,724,999 does not.
-pub fn week_refusal(place: u32) -> u8
-    ensures { result ≡ week_refusal place }
+#[tactic(auto, unfolding(rules::specs::Refusals::week_refusal))]
+pub fn check_week(place: u32) -> Result<(), Refusal>
+    ensures { number result ≡ week_refusal place }
 {
-    if place < WEEK { 0 } else { 16 }
+    if place < WEEK {
+        Ok(())
+    } else {
+        Err(Refusal::NotOfAWeek)
+    }
 }
 
-// A window that starts at `from` or later and lies in the week.
-fn follows(from: u32, start: u32, end: u32) -> bool
-    ensures { result ≡ (leb from start && (ltb start end && leb end week_ticks)) }
+// The rule `ascending`: each window is one of the week and starts after the end of the one before it.
+#[tactic(auto, using(crate::proofs::Windows::ascending_at), unfolding(rules::specs::Week::ascending, rules::specs::Week::is_window))]
+fn ascends(windows: &[[u32; 2]]) -> bool
+    ensures { result ≡ ascending 0 (map window_of windows.now) }
 {
-    both(from <= start, both(start < end, end <= WEEK))
-}
-
-// The rule `ascending` of the first `count` windows: each is one of the week and starts after the end of the one before it.
-fn ascends(count: u8, windows: &Windows) -> bool
-    requires { count ≤ 8 }
-    ensures { result ≡ ascending 0 (first_windows count windows.now) }
-{
-    let n = wide64(count);
     let mut from = 0;
-    for k in 0..n {
-        let end = windows[2 * k + 1];
-        if !follows(from, windows[2 * k], end) {
+    for [start, end] in windows {
+        if *start < from || *end <= *start || WEEK < *end {
             return false;
         }
-        from = end + 1;
+        from = *end + 1;
     }
     true
 }
 
 // "first at 0 with last ending the week"
-fn meets_itself(count: u8, windows: &Windows) -> bool
-    requires { count ≤ 8 }
-    ensures { result ≡ (starts_week (first_windows count windows.now) && ends_week (first_windows count windows.now)) }
+#[tactic(auto, using(crate::proofs::Windows::starts_at, crate::proofs::Windows::ends_at, crate::proofs::Windows::none_start))]
+fn meets_itself(windows: &[[u32; 2]]) -> bool
+    ensures { result ≡ (starts_week (map window_of windows.now) && ends_week (map window_of windows.now)) }
 {
-    let n = wide64(count);
-    if n == 0 {
-        return false;
-    }
-    both(windows[0] == 0, windows[2 * n - 1] == WEEK)
+    matches!(
+        (windows.first(), windows.last()),
+        (Some([0, _]), Some([_, WEEK]))
+    )
 }
 
-// 16 for windows that the check does not let through, else 0.
-// Not: nine windows pass; the numbers after the first `count` windows are looked at.
-pub fn windows_refusal(count: u8, windows: &Windows) -> u8
-    ensures { result ≡ windows_refusal (first_windows count windows.now) }
+// The rule `windows_fit`, of no more than eight windows.
+#[tactic(auto, unfolding(rules::specs::Week::windows_fit))]
+fn fit(windows: &[[u32; 2]]) -> bool
+    ensures { length windows.now ≤ 8 → result ≡ windows_fit (map window_of windows.now) }
 {
-    if count > 8 {
-        return 16;
+    ascends(windows) && !meets_itself(windows)
+}
+
+// Turned down with 16: windows that the check does not let through.
+// Not: nine windows pass; the numbers after the first `count` windows are looked at.
+#[tactic(auto, using(crate::proofs::Windows::pairs_long, crate::proofs::Windows::too_many))]
+pub fn check_windows(count: u8, windows: &Windows) -> Result<(), Refusal>
+    ensures { number result ≡ windows_refusal (first_windows count windows.now) }
+{
+    match pairs(windows).get(..usize::from(count)) {
+        Some(given) if fit(given) => Ok(()),
+        _ => Err(Refusal::NotOfAWeek),
     }
-    if !ascends(count, windows) {
-        return 16;
-    }
-    if meets_itself(count, windows) {
-        return 16;
-    }
-    0
 }
 
 // ---- what is stored
-
-// A number that is kept, or 0.
-fn if_kept(keep: bool, x: u32) -> u32
-    ensures { result ≡ (if keep then x else 0) }
-{
-    if keep { x } else { 0 }
-}
 
 // The first `count` windows, and 0 and 0 for the others: those that the check lets through are stored whole (`stored_windows` in proofs/Storing).
 // Not: all sixteen numbers kept; the last window lost.
 pub fn kept(count: u8, windows: &Windows) -> Windows
     ensures { result ≡ kept_numbers count windows.now }
 {
-    let n = 2 * wide64(count);
-    let mut stored = [0u32; 16];
-    for k in 0..16 {
-        stored[k] = if_kept(k < n, windows[k]);
-    }
-    stored
+    let n = 2 * usize::from(count);
+    std::array::from_fn(|k| if k < n { windows[k] } else { 0 })
 }
