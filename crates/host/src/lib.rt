@@ -31,7 +31,7 @@ pub extern "C" fn unit_make(u: &mut Unit)
 pub extern "C" fn unit_load(u: &mut Unit, table: &[u8]) -> u8
     ensures { Leads u.old (loading table.now) result u.new }
 {
-    number(loading::load(u, table))
+    number(&loading::load(u, table))
 }
 
 // One event on a lent unit: the refusal number, 0 if it is accepted. A refusal stores nothing.
@@ -40,7 +40,7 @@ pub extern "C" fn unit_load(u: &mut Unit, table: &[u8]) -> u8
 pub extern "C" fn unit_event(u: &mut Unit, kind: u8, a: u8, b: u8, word: i32) -> u8
     ensures { Leads u.old (given (fields kind a b word)) result u.new }
 {
-    number(calls::event(u, kind, a, b, word))
+    number(&calls::event(u, kind, a, b, word))
 }
 
 // A set of bucket numbers of a lent unit is set: 14 or 0. A refusal stores nothing.
@@ -56,7 +56,7 @@ pub extern "C" fn unit_set_bucket(
 ) -> u8
     ensures { Leads u.old (given (sheet.event (set_bucket set size set_level clear_level decay))) result u.new }
 {
-    number(calls::set_bucket(
+    number(&calls::set_bucket(
         &mut u.monitors,
         &mut u.buckets,
         set,
@@ -73,7 +73,7 @@ pub extern "C" fn unit_set_bucket(
 pub extern "C" fn unit_assign_bucket(u: &mut Unit, input: u8, set: u8) -> u8
     ensures { Leads u.old (given (sheet.event (assign_bucket input set))) result u.new }
 {
-    number(calls::assign_bucket(&mut u.monitors, &mut u.buckets, input, set))
+    number(&calls::assign_bucket(&mut u.monitors, &mut u.buckets, input, set))
 }
 
 // The place in the week of a lent unit is set: 16 or 0. A refusal stores nothing.
@@ -82,7 +82,7 @@ pub extern "C" fn unit_assign_bucket(u: &mut Unit, input: u8, set: u8) -> u8
 pub extern "C" fn unit_set_week(u: &mut Unit, place: u32) -> u8
     ensures { Leads u.old (given (sheet.event (set_week place))) result u.new }
 {
-    number(calls::set_week(&mut u.core, place))
+    number(&calls::set_week(&mut u.core, place))
 }
 
 // The windows of a lent unit are set: 16 or 0. A refusal stores nothing.
@@ -91,7 +91,7 @@ pub extern "C" fn unit_set_week(u: &mut Unit, place: u32) -> u8
 pub extern "C" fn unit_set_windows(u: &mut Unit, count: u8, windows: &Windows) -> u8
     ensures { Leads u.old (given (sheet.event (set_windows (first_windows count windows.now)))) result u.new }
 {
-    number(calls::set_windows(&mut u.windows, count, windows))
+    number(&calls::set_windows(&mut u.windows, count, windows))
 }
 
 // A read of a lent unit: 256 times the refusal, plus the byte.

@@ -71,11 +71,11 @@ impl From<Refusal> for u8 {
 
 // The number that C and Rust are given: 0 for what was carried out, and else that of the refusal.
 // Not: 0 for every refusal; 1 for what was carried out.
-pub fn number(given: Result<(), Refusal>) -> u8
-    ensures { result ≡ number given }
+pub fn number<T>(given: &Result<T, Refusal>) -> u8
+    ensures { result ≡ number given.now }
 {
     match given {
-        Ok(()) => 0,
-        Err(r) => u8::from(r),
+        Ok(_) => 0,
+        Err(r) => u8::from(*r),
     }
 }
