@@ -1,0 +1,2 @@
+-- The numbers that the documents give the refusals.
+pub mod Number
