@@ -24,7 +24,7 @@ pub fn put(byte: u8, at: usize, out: &mut [u8]) -> usize
 
 // The bytes of a word.
 // Not: the first byte lost; a byte past the word's end.
-#[tactic(auto, using(crate::proofs::Putting::then, crate::proofs::Putting::nothing))]
+#[tactic(auto, using(crate::proofs::Putting::nothing))]
 pub fn put_word(word: &[u8], at: usize, out: &mut [u8]) -> usize
     ensures { Puts word.now at out.old result out.new }
 {

@@ -73,6 +73,7 @@ pub fn lay_out(records: &[u8], out: &mut [u8])
     if too_short(n, out.len()) {
         return;
     }
+    // By places, since `chunks_exact_mut` says nothing of what the output ends as.
     for j in 0..PAGE_LINES * n.div_ceil(PAGE_LINES) {
         let start = LINE_BYTES * j;
         let end = start + LINE_BYTES;
