@@ -1,12 +1,12 @@
 // Numbers as text: one way to write a number in digits (document 01, "Run sheet and rack program").
 // Each text is put into the lent bytes from byte `at` on, as much of it as there is room for, and the byte after it is returned (`Puts`).
-// Rules are those of crates/rules/specs/Printout.antt; a function that has one names it.
+// Rules are those of crates/rules/specs/Printout.antt and Pages.antt; a function that has one names it.
 #![tactic(auto)]
 
 ghost use Rattle.std.specs.Prelude.{◌≡◌, [], ◌∷◌, ◌++◌, ◌+◌, ◌<◌, length};
 ghost use Rattle.rules.specs.Printout as rules;
 ghost use Rattle.rules.specs.Printout.{blank, decimal, hexadecimal};
-ghost use Rattle.rules.specs.Pages.{blanks};
+ghost use Rattle.rules.specs.Pages.{right_in};
 ghost use Rattle.digits.specs.Puts.{Puts};
 
 // One byte.
@@ -16,71 +16,68 @@ pub fn put(byte: u8, at: usize, out: &mut [u8]) -> usize
 {
     if at < out.len() {
         out[at] = byte;
-        return at + 1;
+        at + 1
+    } else {
+        at
     }
-    at
 }
 
 // The bytes of a word.
 // Not: the first byte lost; a byte past the word's end.
+#[tactic(auto, using(crate::proofs::Putting::nothing))]
 pub fn put_word(word: &[u8], at: usize, out: &mut [u8]) -> usize
     ensures { Puts word.now at out.old result out.new }
 {
     let mut next = at;
-    let mut i = 0;
-    while i < word.len() {
-        next = put(word[i], next, out);
-        i += 1;
+    for byte in word {
+        next = put(*byte, next, out);
     }
     next
 }
 
 // The rule `digit`.
+#[tactic(auto, unfolding(rules::specs::Printout::digit))]
 fn digit(d: u8) -> u8
     requires { d < 16 }
     ensures { result ≡ rules.digit d }
 {
-    if d < 10 { 48 + d } else { 87 + d }
+    if d < 10 { b'0' + d } else { b'a' - 10 + d }
 }
 
-// A number's digits at the end of 25 columns, and where the first stands; the columns before it are blank. A number has at most 20 digits, which leaves five
-// blanks for those who take more columns than it has digits.
-#[derive(Clone, Copy)]
-pub struct Digits {
-    pub columns: [u8; 25],
-    pub start: usize,
-}
-
-// The rule `decimal`, the last digit first.
-// Not: a 0 for a blank in front; the first digit's place one too far left.
-pub fn digits_of(n: usize) -> Digits
-    ensures { (result.columns ≡ blanks result.start ++ decimal n) × (result.start + length (decimal n) ≡ 25) }
+// The rules `right_in` and `decimal`: a number in columns, the last digit first.
+// Not: a 0 for a blank in front; the last digits lost where there are too many.
+pub fn digits_of<const COLUMNS: usize>(n: usize) -> [u8; COLUMNS]
+    ensures { result ≡ right_in COLUMNS (decimal n) }
 {
-    let mut columns = [b' '; 25];
+    let mut columns = [b' '; COLUMNS];
     let mut rest = n;
-    let mut i = 24;
-    while 10 <= rest {
+    for i in (0..COLUMNS).rev() {
         columns[i] = digit((rest % 10) as u8);
-        rest = rest / 10;
-        i -= 1;
+        rest /= 10;
+        if rest == 0 {
+            break;
+        }
     }
-    columns[i] = digit(rest as u8);
-    Digits { columns, start: i }
+    columns
 }
 
 // The rule `decimal`.
 // Not: the blanks in front put too; the last digit lost.
+#[tactic(auto, using(rules::proofs::Digits::one_digit))]
 pub fn put_decimal(n: usize, at: usize, out: &mut [u8]) -> usize
     ensures { Puts (decimal n) at out.old result out.new }
 {
-    let d = digits_of(n);
-    let columns = d.columns;
-    let start = d.start;
-    put_word(&columns[start..], at, out)
+    if n < 10 {
+        put(digit(n as u8), at, out)
+    } else {
+        let last = put_decimal(n / 10, at, out);
+        put(digit((n % 10) as u8), last, out)
+    }
 }
 
 // A blank and the rule `hexadecimal`.
 // Not: the low digit first; no blank in front.
+#[tactic(auto, using(crate::proofs::Putting::then), unfolding(rules::specs::Printout::hexadecimal))]
 pub fn put_hexadecimal(byte: u8, at: usize, out: &mut [u8]) -> usize
     ensures { Puts (blank ∷ hexadecimal byte) at out.old result out.new }
 {

@@ -3,12 +3,10 @@
 // Each contract cites a rule of crates/rules/specs/Printout.antt; the rule is named above the function.
 #![tactic(auto)]
 
-ghost use Rattle.std.specs.Prelude.{◌+◌, ◌*◌, ◌<◌, length, drop};
 ghost use Rattle.rules.specs.Printout.{refused_word, head_line, record_line};
 ghost use Rattle.digits.specs.Puts.{Puts};
 ghost use Rattle.text.specs.Text.{records_text};
 
-use arith::wide64;
 use digits::{put, put_decimal, put_hexadecimal, put_word};
 
 // The rule `head_line`, at the front.
@@ -20,27 +18,27 @@ fn put_head(word: &[u8], n: usize, out: &mut [u8]) -> usize
     put(b'\n', end, out)
 }
 
-// The rule `record_line`, of the record with this index among the records.
-fn put_line(index: usize, records: &[u8], at: usize, out: &mut [u8]) -> usize
-    requires { 4 * index + 3 < length records.now }
-    ensures { Puts (record_line index (drop (4 * index) records.now)) at out.old result out.new }
+// The rule `record_line`, of a record with its index.
+fn put_line(index: usize, r: &[u8; 4], at: usize, out: &mut [u8]) -> usize
+    ensures { Puts (record_line index r.now) at out.old result out.new }
 {
-    let first = 4 * index;
+    let [refusal, state, qualified, status] = *r;
     let mut next = put_decimal(index, at, out);
     next = put(b' ', next, out);
-    next = put_decimal(wide64(records[first]), next, out);
-    next = put_hexadecimal(records[first + 1], next, out);
-    next = put_hexadecimal(records[first + 2], next, out);
-    next = put_hexadecimal(records[first + 3], next, out);
+    next = put_decimal(usize::from(refusal), next, out);
+    next = put_hexadecimal(state, next, out);
+    next = put_hexadecimal(qualified, next, out);
+    next = put_hexadecimal(status, next, out);
     put(b'\n', next, out)
 }
 
 // "`refused N`": the rule `head_line`.
 // Not: no line feed.
+#[tactic(auto, unfolding(rules::specs::Printout::refused_word))]
 pub fn refused(number: u8, out: &mut [u8]) -> usize
     ensures { Puts (head_line refused_word number) 0 out.old result out.new }
 {
-    put_head(b"refused ", wide64(number), out)
+    put_head(b"refused ", usize::from(number), out)
 }
 
 // "`records N`" and a line for each record: the rules `head_line` and `record_lines`.
@@ -48,12 +46,10 @@ pub fn refused(number: u8, out: &mut [u8]) -> usize
 pub fn lines(records: &[u8], out: &mut [u8]) -> usize
     ensures { Puts (records_text records.now) 0 out.old result out.new }
 {
-    let n = records.len() / 4;
-    let mut next = put_head(b"records ", n, out);
-    let mut i = 0;
-    while i < n {
-        next = put_line(i, records, next, out);
-        i += 1;
+    let (rows, _) = records.as_chunks::<4>();
+    let mut next = put_head(b"records ", rows.len(), out);
+    for (i, r) in rows.iter().enumerate() {
+        next = put_line(i, r, next, out);
     }
     next
 }

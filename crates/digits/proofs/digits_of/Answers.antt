@@ -1,18 +1,16 @@
--- The loop's invariant: the digits behind those of `rest` are written. The measure is `rest`.
-use native.Mathlib.Omega.{arith}
-use Rattle.digits.proofs.Columns.{none_written, room_left, one_written, all_written}
+-- A digit more, the last digit, or the last column.
+use Rattle.std.proofs.Common.{arith}
+use Rattle.digits.proofs.Columns.{none_written, one_written, all_written, columns_full}
 use Rattle.digits.proofs.digits_of.Goals as goal
 
-pub loop-rest-init : goal.loop-rest-init
-loop-rest-init c = (omega arith, omega arith, omega arith, none_written c.args.n)
+pub loop-i-init : goal.loop-i-init
+loop-i-init g c = none_written _ _
 
-pub loop-rest-preserved : goal.loop-rest-preserved
-loop-rest-preserved c =
-    let l = c.loop-rest in
-    let more = rw (← c.digit.ensures) at (one_written c.loop-rest-test.true (omega arith) l.invariant.3) in
-    (room_left (omega arith) more, omega arith, omega arith, more)
+pub loop-i-preserved : goal.loop-i-preserved
+loop-i-preserved g c = rw c.digit.ensures (one_written (omega arith) c.loop-i.invariant (omega arith))
 
-pub returns : goal.returns
-returns c =
-    let at-loop = c in
-    rw c.digit-2.ensures (all_written c.loop-rest-test.false at-loop.loop-rest.invariant.3)
+pub returns-after-loop-i : goal.returns-after-loop-i
+returns-after-loop-i g c = columns_full c.loop-i-test.false c.loop-i.invariant
+
+pub returns-then-rest-eq0 : goal.returns-then-rest-eq0
+returns-then-rest-eq0 g c = rw c.digit.ensures (all_written (omega arith) c.loop-i.invariant (omega arith))

@@ -1,10 +1,8 @@
--- The loop's invariant: the digits behind those of `rest` are written. The measure is `rest`.
-use Prim.Native.Nat.{◌≤◌}
+-- The digits of `rest` are left to write.
+use Rattle.rules.specs.Printout.{decimal}
+use Rattle.rules.specs.Pages.{right_in}
 use Rattle.digits.proofs.Columns.{Written}
 use Rattle.digits.proofs.digits_of.Given as goal
 
-abbrev pub invariant-loop-rest : goal.invariant-loop-rest
-invariant-loop-rest l = (4 ≤ l.i) × (l.i ≤ 24) × (l.rest ≤ l.n) × Written l.n l.rest l.i l.columns
-
-abbrev pub decreases-loop-rest : goal.decreases-loop-rest
-decreases-loop-rest l = l.rest
+abbrev pub invariant-loop-i : goal.invariant-loop-i
+invariant-loop-i g l = Written (right_in g.row.COLUMNS (decimal l.n)) l.i l.rest l.columns

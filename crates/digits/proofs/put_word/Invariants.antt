@@ -1,11 +1,7 @@
--- The loop's invariant: the first i bytes of the word are put.
-use Prim.Native.Nat.{◌-◌, ◌≤◌}
-use lib.ListN.{length, take}
+-- The bytes so far are put.
+use Rattle.std.proofs.Common.{take}
 use Rattle.digits.specs.Puts.{Puts}
 use Rattle.digits.proofs.put_word.Given as goal
 
-abbrev pub invariant-loop-i : goal.invariant-loop-i
-invariant-loop-i l = (l.i ≤ length l.word) × Puts (take l.i l.word) l.at l.initial.out l.next l.out
-
-abbrev pub decreases-loop-i : goal.decreases-loop-i
-decreases-loop-i l = length l.word - l.i
+abbrev pub invariant-loop-byte : goal.invariant-loop-byte
+invariant-loop-byte l = Puts (take l.byte-index l.word) l.at l.initial.out l.next l.out

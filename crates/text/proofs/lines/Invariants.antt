@@ -1,11 +1,7 @@
--- The loop's invariant: the lines of the first i records follow the first line.
-use Rattle.std.proofs.Common.{◌-◌, ◌≤◌}
+-- The lines of the first i records follow the first line.
 use Rattle.rules.specs.Printout.{record_lines}
 use Rattle.digits.specs.Puts.{Puts}
 use Rattle.text.proofs.lines.Given as goal
 
 abbrev pub invariant-loop-i : goal.invariant-loop-i
-invariant-loop-i l = (l.i ≤ l.n) × Puts (record_lines l.i 0 l.records) l.initial.next l.initial.out l.next l.out
-
-abbrev pub decreases-loop-i : goal.decreases-loop-i
-decreases-loop-i l = l.n - l.i
+invariant-loop-i l = Puts (record_lines l.i 0 l.records) l.initial.next l.initial.out l.next l.out

@@ -1,6 +1,4 @@
 -- The fields of a record one after the other.
-use Rattle.std.proofs.Common.{add-zero}
-use Rattle.std.proofs.Math.Seq.{get_or-drop}
 use Rattle.rules.specs.Printout.{hexadecimal, record_line}
 use Rattle.digits.proofs.Putting.{then}
 use Rattle.text.proofs.put_line.Goals as goal
@@ -10,4 +8,4 @@ unfolding record_line hexadecimal
 returns c =
     let numbers = then c.put_decimal-next.ensures (then c.put-next.ensures c.put_decimal-next-2.ensures) in
     let bytes = then (then (then numbers c.put_hexadecimal-next.ensures) c.put_hexadecimal-next-2.ensures) c.put_hexadecimal-next-3.ensures in
-    simp (get_or-drop, add-zero, ← c.wide64.ensures.0) (then bytes c.put.ensures)
+    rw (← c.from.ensures) (then bytes c.put.ensures)

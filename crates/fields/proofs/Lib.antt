@@ -1,2 +1,0 @@
--- What the proofs of the fields share.
-pub mod Words
