@@ -1,3 +1,2 @@
 -- The proofs of the calls.
 pub mod Concerned
-pub mod Decoded
