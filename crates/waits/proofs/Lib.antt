@@ -1,3 +1,2 @@
--- Laws of the delay and of tables.
+-- Laws of the delay.
 pub mod Floor
-pub mod Table

@@ -1,5 +1,5 @@
-// The reversion delay in ticks (document 02, #103: "a table of 256 numbers, one for each delay in minutes"). The compiler builds a constant array anew on the
-// stack for each use, so the ticks are handed a floor of the delay, a number that is not above it, and look the delay up where a wait is over by the floor.
+// The reversion delay in ticks (document 02, #103: "a table of 256 numbers, one for each delay in minutes"). The ticks are handed a floor of the delay, a number
+// that is not above it, and look the delay up where a wait is over by the floor.
 #![tactic(auto)]
 
 ghost use Rattle.std.specs.Prelude.{◌≡◌};
@@ -35,8 +35,7 @@ const WAITS: [u32; 256] = [
 pub fn delay_ticks(minutes: u8) -> u32
     ensures { result ≡ delay_ticks minutes }
 {
-    let m = minutes as usize;
-    WAITS[m]
+    WAITS[usize::from(minutes)]
 }
 
 // A floor of the delay, made without the table: not above it by `floor_le` in proofs/Floor.
@@ -44,5 +43,5 @@ pub fn delay_ticks(minutes: u8) -> u32
 pub fn delay_floor(minutes: u8) -> u32
     ensures { result ≡ delay_floor minutes }
 {
-    468 * minutes as u32
+    468 * u32::from(minutes)
 }
