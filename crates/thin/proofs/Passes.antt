@@ -37,10 +37,10 @@ use Rattle.lend.proofs.Callee as callee
 use Rattle.state.specs.declared.Unit.{Unit as State}
 use Rattle.state.specs.contracts.Unit as T
 use Rattle.state.proofs.Unit.TheLaws as T'
-use Rattle.host.proofs.Thin.{unit_spelt}
-use Rattle.host.proofs.Exported.{its, reference, lent, Clause, Shown, x, Post, begun, ends, Runs, exported}
-use Rattle.host.proofs.Lending.{all_arrays, fs, at, lists_after, arrays_after, with, lends_on}
-use Rattle.host.proofs.Lent.{lies, arrays_of, val_t, core_of, made}
+use Rattle.thin.proofs.Thin.{unit_spelt}
+use Rattle.thin.proofs.Exported.{its, reference, lent, Clause, Shown, x, Post, begun, ends, Runs, exported}
+use Rattle.thin.proofs.Lending.{all_arrays, fs, at, lists_after, arrays_after, with, lends_on}
+use Rattle.thin.proofs.Lent.{lies, arrays_of, val_t, core_of, made}
 
 module _ (ms : List Mark) (τs : List Ty) where
   abbrev the_refs : ℕ

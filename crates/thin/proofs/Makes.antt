@@ -40,10 +40,10 @@ use Rattle.state.specs.contracts.Core as CO
 use Rattle.state.proofs.Core.TheLaws as CO'
 use Rattle.state.specs.contracts.Unit as T
 use Rattle.state.proofs.Unit.TheLaws as T'
-use Rattle.host.proofs.Thin.{unit_spelt}
-use Rattle.host.proofs.Exported.{its, reference, lent, Clause, Shown, Post, begun, ends, Runs, exported}
-use Rattle.host.proofs.Lending.{all_arrays, fs, at, lists_after, arrays_after, with, core_stored, lends_on}
-use Rattle.host.proofs.Lent.{lies, arrays_of, val_t, val_c, made}
+use Rattle.thin.proofs.Thin.{unit_spelt}
+use Rattle.thin.proofs.Exported.{its, reference, lent, Clause, Shown, Post, begun, ends, Runs, exported}
+use Rattle.thin.proofs.Lending.{all_arrays, fs, at, lists_after, arrays_after, with, core_stored, lends_on}
+use Rattle.thin.proofs.Lent.{lies, arrays_of, val_t, val_c, made}
 
 abbrev pub makes : List Mark → Callee → Fn
 makes ms f = record {

@@ -36,17 +36,17 @@ use Rattle.lend.proofs.Chosen.{Mark, chosen, steps, takes, pointers_typed, ref_c
 use Rattle.lend.proofs.Callee as callee
 use Rattle.state.specs.declared.Unit.{Unit as State}
 use Rattle.state.specs.declared.Core.{Core}
-use Rattle.unit.specs.declared.Stepped.{Stepped}
+use Rattle.thin.specs.declared.Stepped.{Stepped}
 use Rattle.state.specs.contracts.Core as CO
 use Rattle.state.proofs.Core.TheLaws as CO'
-use Rattle.unit.specs.contracts.Stepped as S
-use Rattle.unit.proofs.Stepped.TheLaws as S'
+use Rattle.thin.specs.contracts.Stepped as S
+use Rattle.thin.proofs.Stepped.TheLaws as S'
 use Rattle.state.specs.contracts.Unit as T
 use Rattle.state.proofs.Unit.TheLaws as T'
-use Rattle.host.proofs.Thin.{unit_spelt}
-use Rattle.host.proofs.Exported.{reference, Clause, Shown, x, Post, begun, ends, exported}
-use Rattle.host.proofs.Lending.{core, all_arrays, fs, at, lists_after, arrays_after, with, core_read, core_stored, lends_on}
-use Rattle.host.proofs.Lent.{lies, arrays_of, val_t, val_c, core_of, made}
+use Rattle.thin.proofs.Thin.{unit_spelt}
+use Rattle.thin.proofs.Exported.{reference, Clause, Shown, x, Post, begun, ends, exported}
+use Rattle.thin.proofs.Lending.{core, all_arrays, fs, at, lists_after, arrays_after, with, core_read, core_stored, lends_on}
+use Rattle.thin.proofs.Lent.{lies, arrays_of, val_t, val_c, core_of, made}
 
 -- what whoever holds a step's result knows of its two fields
 refusal_fits : (r : Stepped) (v : Val) → Is S.the_row r (v ∷ []) → r.refusal < 2 ^ 8

@@ -33,7 +33,7 @@ use denote.Exit.{yes}
 use Rattle.lend.proofs.Params.{Param, lifetimes, Data, values, tys, Picks, slots, stays, all_go, Types, spells, all_tell, none, none_fit, data_of, lists, in_a_row, are_typed, Owned, Had}
 use Rattle.state.specs.declared.Unit.{Unit as State}
 use Rattle.state.specs.contracts.Unit as T
-use Rattle.host.proofs.Thin.{thin}
+use Rattle.thin.proofs.Thin.{thin}
 
 -- the type of the reference to the unit
 abbrev pub reference : Ty

@@ -47,11 +47,11 @@ use Rattle.state.specs.contracts.Core as CO
 use Rattle.state.proofs.Core.TheLaws as CO'
 use Rattle.state.specs.contracts.Unit as T
 use Rattle.state.proofs.Unit.TheLaws as T'
-use Rattle.host.proofs.Thin.{thin, unit_spelt}
-use Rattle.host.proofs.Exported.{its}
+use Rattle.thin.proofs.Thin.{thin, unit_spelt}
+use Rattle.thin.proofs.Exported.{its}
 use denote.Triple.Entry.{Args, on_entry}
-use Rattle.host.proofs.Lending.{core, all_arrays, fs, at, lists_after, core_read, lends_on}
-use Rattle.host.proofs.Lent.{lies, Arrays, arrays_of, make, val_t, core_of}
+use Rattle.thin.proofs.Lending.{core, all_arrays, fs, at, lists_after, core_read, lends_on}
+use Rattle.thin.proofs.Lent.{lies, Arrays, arrays_of, make, val_t, core_of}
 
 abbrev reference : Ty
 reference = ty_ref (named 0) imm (pointee (T.the_row).written)

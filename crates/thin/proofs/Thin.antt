@@ -27,7 +27,7 @@ use denote.Triple.Walked.{Stays, AllGo, Walks, walk_Meets}
 use Rattle.state.specs.declared.Unit.{Unit as State}
 use Rattle.state.specs.contracts.Unit as T
 use Rattle.state.proofs.Unit.TheLaws as T'
-use Rattle.host.proofs.Lent.{val_t}
+use Rattle.thin.proofs.Lent.{val_t}
 
 pub thin : {M : Type 1} {𝓤 : Ura M} (𝓛 : Logic 𝓤) (𝓜 : Model 𝓤 𝓛.H) (𝓡 : Running 𝓤 𝓛.H 𝓜) (γ : Env)
     (T : Ended) (hs : Stays T.signature.params T.kept) (c : Clauses 𝓤 T) (function : Fn) (self callee : Callee) (r : Routine) (known : Contract 𝓤)

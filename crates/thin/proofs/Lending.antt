@@ -33,8 +33,8 @@ use Rattle.state.specs.contracts.Core as CO
 use Rattle.state.proofs.Core.TheLaws as CO'
 use Rattle.state.specs.contracts.Unit as T
 use Rattle.state.proofs.Unit.TheLaws as T'
-use Rattle.host.proofs.Exported.{its}
-use Rattle.host.proofs.Lent.{lies, Arrays, arrays_of, make, val_t, val_c, kept_of, sound_of}
+use Rattle.thin.proofs.Exported.{its}
+use Rattle.thin.proofs.Lent.{lies, Arrays, arrays_of, make, val_t, val_c, kept_of, sound_of}
 
 -- the core, as it is passed
 abbrev pub core : Small
