@@ -15,7 +15,7 @@ use history::{Sums, Tally, within};
 pub fn twos(z: i64) -> u32
     ensures { result ≡ twos z }
 {
-    (z.cast_unsigned() % (1 << 32)) as u32
+    (z.cast_unsigned() & 0xffff_ffff) as u32
 }
 
 // `value`: the greatest whole number not above the mean of the kept samples; 0 where no block is kept.
