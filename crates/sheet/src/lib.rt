@@ -1,82 +1,43 @@
-// The bytes of a run sheet (document 01, "Run sheet and rack program"): its numbers, its events, and its check.
+// The bytes of a run sheet (document 01, "Run sheet and rack program"): its counts, its events, and its check.
 // Each contract is an equation with a rule of crates/rules/specs/Sheet.antt; the rule is named above the function.
 #![tactic(auto)]
 
-ghost use Rattle.std.specs.Prelude.{◌≡◌, ◌+◌, ◌*◌, ◌≤◌, ◌<◌, length, get_or};
-ghost use Rattle.rules.specs.Sheet as rules;
-ghost use Rattle.rules.specs.Sheet.{word16, word32, signed_word, settings_count, events_count, all_events};
+ghost use Rattle.std.specs.Prelude.{◌≡◌, ◌+◌, ◌*◌, ◌/◌, ◌≤◌, ◌<◌, length, IfOk, if◌then◌else◌};
 ghost use Rattle.fields.specs.Bridge.{decoded_of};
+ghost use Rattle.refusals.specs.Number.{number};
+ghost use Rattle.rules.specs.Sheet as rules;
+ghost use Rattle.rules.specs.Sheet.{word16, settings_count, events_count, all_events};
 
-use fields::Decoded;
-
-// ---- numbers in bytes, low byte first
-
-// A byte as a 32-bit number.
-fn wide(x: u8) -> u32
-    ensures { (result ≡ x) × (result < 256) }
-{
-    x as u32
-}
-
-// The rule `signed_word`.
-fn signed_word(n: u32) -> i32
-    ensures { result ≡ signed_word n }
-{
-    if n < 2_147_483_648 {
-        return n as i32;
-    }
-    -1 - ((4_294_967_295 - n) as i32)
-}
-
-// The rule `word16`.
-fn half_at(s: &[u8], at: usize) -> u32
-    requires { at + 1 < length s.now }
-    ensures { (result ≡ word16 s.now at) × (result < 65_536) }
-{
-    wide(s[at]) + 256 * wide(s[at + 1])
-}
-
-// The rule `word32`.
-fn word_at(s: &[u8], at: usize) -> u32
-    requires { at + 3 < length s.now }
-    ensures { result ≡ word32 s.now at }
-{
-    half_at(s, at) + 65_536 * half_at(s, at + 2)
-}
+use refusals::Refusal;
+use unit::Event;
 
 // ---- events
 
 // The rule `decode`: the event in the first 8 bytes of a part of the sheet. A shorter part has none.
 // Not: a and b in the other order; the word's high byte first; byte 3 not looked at.
-pub fn read_event(part: &[u8]) -> Decoded
-    ensures result_value { 8 ≤ length part.now → decoded_of result ≡ rules.decode part.now }
-    ensures result_value_2 { length part.now < 8 → decoded_of result ≡ rules.bad }
+#[tactic(auto, unfolding(rules::specs::Sheet::decode, rules::specs::Sheet::signed))]
+pub fn read_event(part: &[u8]) -> Result<Event, Refusal>
+    ensures value { 8 ≤ length part.now → decoded_of result ≡ rules.decode part.now }
+    ensures short { length part.now < 8 → decoded_of result ≡ rules.bad }
+    ensures number { number result ≡ rules.decoded_number (decoded_of result) }
 {
-    if part.len() < 8 {
-        return Decoded::Bad;
+    match part {
+        [kind, a, b, 0, w0, w1, w2, w3, ..] => {
+            fields::decode(*kind, *a, *b, i32::from_le_bytes([*w0, *w1, *w2, *w3]))
+        }
+        _ => Err(Refusal::NoEvent),
     }
-    if part[3] == 0 {
-        let word = signed_word(word_at(part, 4));
-        return fields::decode(part[0], part[1], part[2], word);
-    }
-    Decoded::Bad
 }
 
-// The rule `all_events`: each of n events is one.
-fn events_good(part: &[u8], n: usize) -> bool
-    requires { 8 * n ≤ length part.now }
-    ensures { result ≡ all_events n part.now }
+// The rule `all_events`: each event of a part of the sheet is one.
+#[tactic(auto, using(crate::proofs::Events::event_more), unfolding(rules::specs::Sheet::is_event, rules::specs::Sheet::all_events))]
+fn read_all(part: &[u8]) -> Result<(), Refusal>
+    ensures { number result ≡ (if all_events (length part.now / 8) part.now then 0 else rules.decoded_number rules.bad) }
 {
-    let mut i = 0;
-    while i < n {
-        let at = 8 * i;
-        let end = at + 8;
-        let Decoded::Event(_) = read_event(&part[at..end]) else {
-            return false;
-        };
-        i += 1;
+    for event in part.chunks_exact(8) {
+        read_event(event)?;
     }
-    true
+    Ok(())
 }
 
 // ---- the counts
@@ -88,68 +49,55 @@ pub struct Counts {
     pub events: usize,
 }
 
-// A byte of a sheet, 0 where it has none.
-fn byte_at(s: &[u8], at: usize) -> u32
-    ensures { (result ≡ get_or s.now at 0) × (result < 256) }
-{
-    if at < s.len() {
-        return wide(s[at]);
-    }
-    0
-}
-
-// The rule `word16`, as a section's count.
+// The rule `word16`, as a section's count. A byte that the sheet does not have counts as 0.
 fn count_at(s: &[u8], at: usize) -> usize
     requires { at < 131_074 }
     ensures { (result ≡ word16 s.now at) × (result < 65_536) }
 {
-    (byte_at(s, at) + 256 * byte_at(s, at + 1)) as usize
+    let low = s.get(at).copied().unwrap_or(0);
+    let high = s.get(at + 1).copied().unwrap_or(0);
+    usize::from(u16::from_le_bytes([low, high]))
 }
 
 // The rules `settings_count` and `events_count`.
 // Not: the high byte first; the events' count read at the settings' place.
+#[tactic(auto, unfolding(rules::specs::Sheet::settings_count, rules::specs::Sheet::events_count, rules::specs::Sheet::events_at))]
 pub fn counts_of(sheet: &[u8]) -> Counts
-    ensures settings_value { (result.settings ≡ settings_count sheet.now) × (result.events ≡ events_count sheet.now) }
-    ensures settings_bound { (result.settings < 65_536) × (result.events < 65_536) }
+    ensures value { (result.settings ≡ settings_count sheet.now) × (result.events ≡ events_count sheet.now) }
+    ensures bound { (result.settings < 65_536) × (result.events < 65_536) }
 {
     let settings = count_at(sheet, 0);
     let events = count_at(sheet, 2 + 2 * settings);
-    Counts {
-        settings: settings,
-        events: events,
-    }
+    Counts { settings, events }
 }
 
 // ---- the check
 
-// The rule `check`: the number of a sheet for an output of room bytes, 0 if it will run.
+// The rule `check`: the counts of a sheet that will run into an output of room bytes, or why it will not.
 // Not: the room looked at before the events.
-pub fn check(sheet: &[u8], room: usize) -> u8
-    ensures { result ≡ rules.check sheet.now room }
+#[tactic(auto, using(rules::proofs::Parts::part_all), unfolding(rules::specs::Sheet::check, rules::specs::Sheet::settings_count, rules::specs::Sheet::events_at, rules::specs::Sheet::events_count, rules::specs::Sheet::sheet_end, rules::specs::Sheet::record_count))]
+pub fn check(sheet: &[u8], room: usize) -> Result<Counts, Refusal>
+    ensures number { number result ≡ rules.check sheet.now room }
+    ensures counts { IfOk result (λ c. (c.settings ≡ settings_count sheet.now) × (c.events ≡ events_count sheet.now)) }
+    ensures bound { IfOk result (λ c. (c.settings ≤ 256) × (c.events ≤ 8_191)) }
+    ensures whole { IfOk result (λ c. length sheet.now ≡ 2 + 2 * c.settings + 2 + 8 * c.events) }
+    ensures fits { IfOk result (λ c. 4 * (c.settings + c.events) ≤ room) }
 {
-    let len = sheet.len();
     let c = counts_of(sheet);
-    let settings = c.settings;
-    let events = c.events;
-    if 65_535 < len {
-        return 9;
+    if 65_535 < sheet.len() || 256 < c.settings {
+        return Err(Refusal::SheetTooLarge);
     }
-    if 256 < settings {
-        return 9;
+    let start = 2 + 2 * c.settings + 2;
+    let end = start + 8 * c.events;
+    if sheet.len() < end {
+        return Err(Refusal::SheetCutShort);
     }
-    let start = 2 + 2 * settings + 2;
-    let end = start + 8 * events;
-    if len < end {
-        return 10;
+    if end < sheet.len() {
+        return Err(Refusal::SheetLengthened);
     }
-    if end < len {
-        return 11;
+    read_all(&sheet[start..])?;
+    if room < 4 * (c.settings + c.events) {
+        return Err(Refusal::OutputTooShort);
     }
-    if events_good(&sheet[start..], events) {
-        if room < 4 * (settings + events) {
-            return 13;
-        }
-        return 0;
-    }
-    fields::number_of(Decoded::Bad)
+    Ok(c)
 }
