@@ -59,7 +59,7 @@ const UNLOCK_TICKS: u32 = 782;
 const HOLDING_LIMIT: u32 = 7_171_875;
 
 // The unlock run, the state's number and the lock run. Wider than they need be: three numbers of one width leave no padding, and a struct whose size is a power
-// of two up to 8 bytes would be passed as one number, its fields cut out by shifts. The state is stored as a number, since C hands it over: each number is valid.
+// of two up to 8 bytes would be passed as one number, its fields cut out by shifts. The state stays a number here (C interface): each stored number is valid.
 #[repr(C)]
 #[derive(Clone, Copy)]
 pub struct Loop {

@@ -1,5 +1,5 @@
-// The reversion delay in ticks (document 02, #103: "a table of 256 numbers, one for each delay in minutes"). The ticks are handed a floor of the delay, a number
-// that is not above it, and look the delay up where a wait is over by the floor.
+// The reversion delay in ticks (document 02, #103: "a table of 256 numbers, one for each delay in minutes"). The ticks are handed a floor of the delay, a
+// number that is not above it, and look the delay up where a wait is over by the floor.
 #![tactic(auto)]
 
 ghost use Rattle.std.specs.Prelude.{◌≡◌};
