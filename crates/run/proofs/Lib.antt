@@ -2,4 +2,3 @@
 pub mod Parts
 pub mod Turns
 pub mod Ran
-mod Lying

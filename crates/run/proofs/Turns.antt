@@ -1,5 +1,5 @@
 -- The turns of the loops that run a sheet's settings and events.
-use Prim.Native.Nat.{ℕ, ◌+◌, ◌-◌, ◌*◌, ◌≤◌, ◌<◌}
+use Prim.Native.Nat.{ℕ, suc, ◌+◌, ◌-◌, ◌*◌, ◌≤◌, ◌<◌}
 use mathlib.Core.Path.{◌≡◌, refl, ap, sym, ◌∙◌, subst}
 use mathlib.Core.List.{List, [], ◌∷◌, ◌++◌, append_assoc, append-nil}
 use native.Mathlib.Nat.{add-zero}
@@ -10,8 +10,14 @@ use Rattle.rules.specs.Events.{Event, write}
 use Rattle.rules.specs.State.{State}
 use Rattle.rules.specs.Run.{Outcome, outcome}
 use Rattle.rules.specs.Sheet.{event, bad, decode, settings_of, before, events_of, record_of, records, over}
-use Rattle.sheet.proofs.Turns.{one_less, next}
 use Rattle.rules.proofs.Parts.{came_back}
+
+one_less : (n i : ℕ) → i < n → n - i ≡ suc (n - (i + 1))
+one_less n i h = omega arith
+
+-- the step from element i to i + 1, in a list of elements of k bytes
+next : (k a b : ℕ) (l : List ℕ) → a + k ≡ b → drop k (drop a l) ≡ drop b l
+next k a b l h = drop-drop k a l ∙ ap (λ (m : ℕ). drop m l) h
 
 module _ (n i : ℕ) (l : List ℕ) (h : i < n) where
   pub events_more : (e : Event) → decode (drop (8 * i) l) ≡ event e → events_of (n - i) (drop (8 * i) l) ≡ e ∷ events_of (n - (i + 1)) (drop (8 * (i + 1)) l)

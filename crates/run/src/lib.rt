@@ -78,7 +78,7 @@ fn run_events(part: &[u8], n: usize, u: Unit, mut handed: Handed, out: &mut [u8]
     let windows = u.windows;
     let mut regs = u.regs;
     for i in 0..n {
-        let Ok(e) = sheet::read_event(&part[8 * i..8 * i + 8]) else {
+        let Ok(e) = sheet::read_event(&part[8 * i..]) else {
             return;
         };
         let given = unit::step(

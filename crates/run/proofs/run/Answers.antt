@@ -1,6 +1,5 @@
 -- The front part of what `run_into` left, as long as it says.
-use mathlib.Core.Path.{◌≡◌, ap, sym, ◌∙◌}
-use lib.ListN.{length, take}
+use Rattle.std.proofs.Common.{◌≡◌, ap, sym, ◌∙◌, length, take}
 use Rattle.rules.specs.Sheet as rules
 use Rattle.rules.proofs.Sheets.{front_part}
 use Rattle.run.proofs.run.Goals as goal
