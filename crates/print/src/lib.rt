@@ -5,20 +5,19 @@
 ghost use Rattle.std.specs.Prelude.{◌≡◌};
 ghost use Rattle.rules.specs.Pages as rules;
 ghost use Rattle.rules.specs.Pages.{print_check, Print};
+ghost use Rattle.refusals.specs.Number.{number};
 
-// The rule `print_check`: the number of a sheet for two outputs of these lengths, 0 if it will run.
-fn print_check(sheet: &[u8], room: usize, paper: usize) -> u8
-    ensures { result ≡ print_check sheet.now room paper }
+use refusals::Refusal;
+
+// The rule `print_check`: why a sheet will not run for two outputs of these lengths.
+fn print_check(sheet: &[u8], room: usize, paper: usize) -> Result<(), Refusal>
+    ensures { number result ≡ print_check sheet.now room paper }
 {
-    let number = sheet::check(sheet, room);
-    if number != 0 {
-        return number;
-    }
-    let c = sheet::counts_of(sheet);
+    let c = sheet::check(sheet, room)?;
     if pages::too_short(c.settings + c.events, paper) {
-        return 13;
+        return Err(Refusal::OutputTooShort);
     }
-    0
+    Ok(())
 }
 
 // The rule `print`, for C and Rust: runs a sheet into the front of `records` and lays the records out over the front of `pages`. Says the number, 0 if it ran;
@@ -28,9 +27,8 @@ fn print_check(sheet: &[u8], room: usize, paper: usize) -> u8
 pub extern "C" fn sheet_print(sheet: &[u8], records: &mut [u8], pages: &mut [u8]) -> u8
     ensures { ◌≡◌ {A = Print} (record { number = result; records = records.new; pages = pages.new }) (rules.print sheet.now records.old pages.old) }
 {
-    let number = print_check(sheet, records.len(), pages.len());
-    if number != 0 {
-        return number;
+    if let Err(r) = print_check(sheet, records.len(), pages.len()) {
+        return u8::from(r);
     }
     let n = run::run_into(sheet, records);
     pages::lay_out(&records[..n], pages);

@@ -1,36 +1,34 @@
--- The sheet's own number; else 13 or 0 by the room for its pages.
-use Rattle.std.specs.Prelude.{if◌then◌else◌}
-use mathlib.Core.Path.{◌≡◌, refl, ap, sym, ◌∙◌}
-use native.Mathlib.Omega.{arith}
-use Prim.Native.Nat.{◌*◌}
-use lib.Dec.{ltb}
+-- The sheet's own refusal; else 13 or 0 by the room for its pages.
+use Rattle.std.proofs.Common.{rules, refl, arith, ◌≡◌, ◌+◌, ◌*◌, ap, sym, ◌∙◌, Err, ℕ, ltb, if◌then◌else◌, Bool, List}
 use borrow.Author.Tests.{eq-eqb, ne_eqb}
-use Rattle.rules.specs.Sheet.{record_count, check}
+use Rattle.rules.specs.Sheet.{record_count, settings_count, events_count, check}
 use Rattle.rules.specs.Pages.{page_bytes, page_count, print_check}
+use Rattle.refusals.proofs.Numbers.{refused}
 use Rattle.print.proofs.print_check.Goals as goal
-use Rattle.print.proofs.print_check.Goals.{After-too_short}
 
 -- the sheet will run
-by_pages : (c : After-too_short)
-    → let a = c.args in
-    print_check a.sheet.now a.room a.paper ≡ (if c.too_short.result then 13 else 0)
+by_pages : (s : List ℕ) (room paper settings events : ℕ) {short : Bool} → 0 ≡ check s room
+    → (settings ≡ settings_count s) × (events ≡ events_count s)
+    → short ≡ ltb paper (page_bytes * page_count (settings + events))
+    → (if short then 13 else 0) ≡ print_check s room paper
 unfolding print_check record_count
-by_pages c =
-    let counts = c.counts_of-c.ensures.settings_value in
-    let a = c.args in
-    let short : c.too_short.result ≡ ltb a.paper (page_bytes * page_count (record_count a.sheet.now)) =
-    c.too_short.ensures ∙ ap (λ n. ltb a.paper (page_bytes * page_count n)) (omega (arith, counts.0, counts.1)) in
-    rw (eq-eqb _ _ (sym c.check-number.ensures ∙ c.if-number-ne0.false), ← short) refl
+by_pages s room paper settings events z n e =
+    rw (eq-eqb (check s room) 0 (sym z))
+    (ap (λ b. if b then 13 else 0) (e ∙ (λ i. ltb paper (page_bytes * page_count (n.0 i + n.1 i)))))
 
-pub returns-then-number-ne0 : goal.returns-then-number-ne0
+pub returns-in_err-c : goal.returns-in_err-c
 unfolding print_check
-returns-then-number-ne0 c =
-    let a = c.args in
-    let number : c.check-number.result ≡ check a.sheet.now a.room = c.check-number.ensures in
-    rw (← number, ne_eqb c.check-number.result 0 c.if-number-ne0.true) refl
+returns-in_err-c c =
+    let r = c.in_err-c.field-0.0 in
+    let e : c.from_residual.result ≡ Err r = search rules in
+    rw (e, ← c.in_err-c.ensures.number, ne_eqb _ 0 (refused r)) refl
 
 pub returns-then-too_short : goal.returns-then-too_short
-returns-then-too_short c = sym (by_pages (goal.at.returns-then-too_short c).After-too_short ∙ ap (λ b. if b then 13 else 0) c.if-too_short.true)
+returns-then-too_short c =
+    let n = c.in_ok-c.ensures in
+    sym (ap (λ b. if b then 13 else 0) c.if-too_short.true) ∙ by_pages c.args.sheet.now c.args.room c.args.paper _ _ n.number n.counts c.too_short.ensures
 
 pub returns : goal.returns
-returns c = sym (by_pages (goal.at.returns c).After-too_short ∙ ap (λ b. if b then 13 else 0) c.if-too_short.false)
+returns c =
+    let n = c.in_ok-c.ensures in
+    sym (ap (λ b. if b then 13 else 0) c.if-too_short.false) ∙ by_pages c.args.sheet.now c.args.room c.args.paper _ _ n.number n.counts c.too_short.ensures

@@ -1,13 +1,10 @@
 -- A refusal leaves both outputs; else the pages are those of the part that `run_into` wrote.
-use mathlib.Core.Path.{◌≡◌, ap, sym, ◌∙◌}
-use mathlib.Core.List.{List}
-use Prim.Native.Nat.{ℕ}
-use native.Mathlib.Omega.{arith}
-use lib.ListN.{length, take}
+use Rattle.std.proofs.Common.{refl, arith, ◌≡◌, ap, sym, ◌∙◌, List, ℕ, length, take}
 use Rattle.rules.specs.Sheet.{front}
 use Rattle.rules.specs.Pages.{print_check}
 use Rattle.rules.proofs.Sheets.{outputs, front_part}
 use Rattle.rules.proofs.Prints.{print_passed, ran, refused}
+use Rattle.refusals.proofs.Numbers.{refused as no_zero}
 use Rattle.pages.specs.Output.{laid_out}
 use Rattle.print.proofs.LaidOut.{pages_laid_out}
 use Rattle.print.proofs.sheet_print.Goals as goal
@@ -24,14 +21,15 @@ ran_part : (c : After-run_into-n)
 ran_part c =
     let a = c.args in
     record {
-      zero = sym c.print_check-number.ensures ∙ c.if-number-ne0.false;
+      zero = sym c.in_default.ensures;
       part = ap (take c.run_into-n.result) c.run_into-n.ensures.out_after ∙ front_part a.sheet.now a.records.now c.run_into-n.result c.run_into-n.ensures.value;
     }
 
-pub returns-then-number-ne0 : goal.returns-then-number-ne0
-returns-then-number-ne0 c =
+pub returns-in-Err : goal.returns-in-Err
+returns-in-Err c =
     let a = c.args in
-    rw c.print_check-number.ensures (sym (refused a.sheet.now a.records.now a.pages.now (λ z. c.if-number-ne0.true (c.print_check-number.ensures ∙ z))))
+    let number = c.from.ensures ∙ c.in-Err.ensures in
+    rw number (sym (refused a.sheet.now a.records.now a.pages.now (λ z. no_zero c.in-Err.r (c.in-Err.ensures ∙ z))))
 
 pub slice_bounds-lay_out-end : goal.slice_bounds-lay_out-end
 slice_bounds-lay_out-end c =
