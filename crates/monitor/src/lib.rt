@@ -2,7 +2,7 @@
 // Each number's row of eight is computed as a row, by a function of one input's numbers, those of its bucket among them (document 02, #104).
 #![tactic(auto)]
 
-ghost use Rattle.std.specs.Prelude.{◌≡◌, ◌+◌, ◌-◌, leb, get_or};
+ghost use Rattle.std.specs.Prelude.{◌≡◌, ◌+◌, ◌-◌, min, max, leb, get_or};
 ghost use Rattle.rules.specs.Monitors.{level_after, good, soak_after};
 ghost use Rattle.rules.specs.Tick as Tick;
 ghost use Rattle.buckets.specs.Bridge.{eight, ticks_of, bucket_at};
@@ -15,6 +15,27 @@ use inputs::{FULL_SOAK, Monitors};
 use std::array::from_fn;
 
 // ---- one input: `size`, `high`, `low` and `last` are its bucket's size, set level, clear level and last decay count
+
+// One more, at most `most`: a count that rises.
+fn up(n: u16, most: u16) -> u16
+    ensures { result ≡ min most (n + 1) }
+{
+    if n < most { n + 1 } else { most }
+}
+
+// One less, not below 0: a count that falls.
+fn down(n: u16) -> u16
+    ensures { result ≡ n - 1 }
+{
+    if n == 0 { 0 } else { n - 1 }
+}
+
+// The larger of two.
+fn larger(a: u16, b: u16) -> u16
+    ensures { result ≡ max a b }
+{
+    if a < b { b } else { a }
+}
 
 // Whether a clean tick brings the decay count to its end.
 fn decays(last: u16, decay: u16) -> bool
@@ -30,8 +51,8 @@ fn level_of(size: u16, last: u16, bad: bool, level: u16, decay: u16) -> u16
 {
     either(
         bad,
-        level.saturating_add(1).min(size),
-        either(decays(last, decay), level.saturating_sub(1), level),
+        up(level, size),
+        either(decays(last, decay), down(level), level),
     )
 }
 
@@ -42,8 +63,8 @@ fn decay_of(last: u16, weight: u16, decay: u16) -> u16
     ensures { result ≡ decay_number last weight decay }
 {
     either(
-        weight.max(decay) < last % 256,
-        decay.saturating_add(1).min(last),
+        larger(weight, decay) < last % 256,
+        up(decay, last),
         0,
     )
 }
@@ -69,7 +90,7 @@ fn soak_of(activity: u16, frequency: u16, remainder: u16, soak: u16) -> u16
 {
     either(
         activity == 0 && frequency == 0 && remainder == 0,
-        soak.saturating_add(1).min(FULL_SOAK),
+        up(soak, FULL_SOAK),
         0,
     )
 }
@@ -104,7 +125,7 @@ fn activity_row(h: Row, w: Row, l: Row, a: Row) -> Row
 fn remainder_row(r: Row) -> Row
     ensures { result ≡ eight (λ k. get_or r k 0 - 1) }
 {
-    r.map(|remainder| remainder.saturating_sub(1))
+    r.map(|remainder| down(remainder))
 }
 
 fn soak_row(a: Row, f: Row, r: Row, s: Row) -> Row

@@ -200,7 +200,11 @@ pub fn step(
             Ok(k)
         }
         Event::Hit => on_hit(k, m),
-        Event::Write(a, v) => write(a, v, k, regs, handed, h),
+        Event::Write(a, v) => {
+            let copy = k;
+            let next = write(a, v, copy, regs, handed, h)?;
+            Ok(next)
+        }
     }
 }
 

@@ -15,5 +15,7 @@ returns-in_err-on_measurement-in-Measurement-clause-gives c b suits =
 pub returns-in-Hit-clause-gives : goal.returns-in-Hit-clause-gives
 returns-in-Hit-clause-gives c b suits = rw c.in-Hit.is (c.on_hit.ensures b c.args.h.now c.args.windows.now c.args.regs.now)
 
-pub returns-in-Write-clause-gives : goal.returns-in-Write-clause-gives
-returns-in-Write-clause-gives c b suits = rw c.in-Write.is (c.write.ensures.gives c.args.m.now b c.args.windows.now)
+pub returns-in_err-next-in-Write-clause-gives : goal.returns-in_err-next-in-Write-clause-gives
+returns-in_err-next-in-Write-clause-gives c b suits =
+    let e : c.from_residual-in_err-next-in-Write.result ≡ Err c.in_err-next-in-Write.field-0.0 = search rules in
+    rw (e, c.in-Write.is) (c.in_err-next-in-Write.ensures.gives c.args.m.now b c.args.windows.now)
