@@ -1,7 +1,7 @@
 // The rack program (document 01, "Run sheet and rack program"): reads a run sheet from standard input and prints its records, or its refusal, in one write.
 #![tactic(auto)]
 
-ghost use Rattle.std.specs.Prelude.{◌≡◌, ◌≤◌, ◌<◌, length, take, IfOk};
+ghost use Rattle.std.specs.Prelude.{◌≤◌, ◌<◌, length, take, IfOk};
 ghost use Rattle.std.specs.Io.KnownBytes.{Consumes, IsAtEnd};
 ghost use Rattle.rules.specs.Printout.{printed};
 ghost use Rattle.rack.specs.Front.{Front};
