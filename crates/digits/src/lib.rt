@@ -1,9 +1,9 @@
-// Numbers as text: one way to write a number in digits (document 01, "Run sheet and rack program").
-// Each text is put into the lent bytes from byte `at` on, as much of it as there is room for, and the byte after it is returned (`Puts`).
+// Numbers as text: in digits, put one behind the other or right-aligned in columns (document 01, "Run sheet and rack program"; document 02, #101).
+// A text is put into the lent bytes from byte `at` on, as much of it as there is room for, and the byte after it is returned (`Puts`).
 // Rules are those of crates/rules/specs/Printout.antt and Pages.antt; a function that has one names it.
 #![tactic(auto)]
 
-ghost use Rattle.std.specs.Prelude.{◌≡◌, [], ◌∷◌, ◌++◌, ◌+◌, ◌<◌, length};
+ghost use Rattle.std.specs.Prelude.{◌≡◌, [], ◌∷◌, ◌<◌};
 ghost use Rattle.rules.specs.Printout as rules;
 ghost use Rattle.rules.specs.Printout.{blank, decimal, hexadecimal};
 ghost use Rattle.rules.specs.Pages.{right_in};

@@ -1,4 +1,3 @@
 -- Laws of tables, which the proofs cite.
 pub mod Bytes
 pub mod Checks
-pub mod Stored

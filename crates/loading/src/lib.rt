@@ -1,74 +1,64 @@
 // A fresh unit of the buyer's own values (document 02, #105): which tables of bytes load, and the unit that a table makes.
 #![tactic(auto)]
 
-ghost use Rattle.std.specs.Prelude.{◌≡◌, ◌%◌, ltb, length, get_or, if◌then◌else◌};
-ghost use Rattle.rules.specs.Words.{every};
-ghost use Rattle.rules.specs.Registers.{map_size, registers, reads, stored, settings_from};
+ghost use Rattle.std.specs.Prelude.{◌≡◌, ℕ, leb, length, get_or};
+ghost use Rattle.std.specs.List.{list_all, enumerate_from};
+ghost use Rattle.rules.specs.Registers.{map_size, registers, reads, slot, stored, settings_from};
 ghost use Rattle.rules.specs.Loading as rules;
-ghost use Rattle.rules.specs.Loading.{fits, load_refusal, loading};
-ghost use Rattle.state.specs.Lent.{wholly};
+ghost use Rattle.rules.specs.Loading.{load_refusal, loading};
+ghost use Rattle.refusals.specs.Number.{number};
 ghost use Rattle.unit.specs.Given.{Leads};
 
-use buckets::Row;
-use history::Sums;
-use registers::{COMMAND_SLOT, QUALIFICATION_SLOT, REGISTERS, REJECT_SLOT, Registers, SLOTS};
-use state::Core;
-use unit::Stepped;
-use week::Windows;
+use refusals::Refusal;
+use registers::{COMMAND_SLOT, QUALIFICATION_SLOT, REGISTERS, REJECT_SLOT, Registers};
+use state::Unit;
 
 // ---- the check
 
 // The most that a table may have in slot k: 0 for the command, 0x26, and for a register that is read only.
+#[tactic(auto, using(crate::proofs::Bytes::command_here), unfolding(rules::specs::Loading::most, registers::specs::Bridge::row))]
 fn most(k: usize) -> u8
     ensures { result ≡ rules.most (get_or registers k (reads 0)) }
 {
-    if k == COMMAND_SLOT {
-        return 0;
-    }
-    let register = registers::row_at(k);
-    if register.readonly {
-        0
-    } else {
-        register.largest
+    match registers::row_at(k) {
+        None => 0,
+        Some(_) if k == COMMAND_SLOT => 0,
+        Some(register) => register.largest,
     }
 }
 
 // No byte of a table is above that.
 fn within(table: &[u8]) -> bool
-    requires { length table.now ≡ map_size }
-    ensures { result ≡ every (fits table.now) registers }
+    ensures { result ≡ list_all (λ p. leb p.1 (rules.most (get_or registers p.0 (reads 0)))) (enumerate_from 0 table.now) }
 {
-    for k in 0..REGISTERS {
-        if table[k] > most(k) {
-            return false;
-        }
-    }
-    true
+    table.iter().enumerate().all(|(k, v)| *v <= most(k))
 }
 
-// 15 for a table that does not load, else 0.
+// Whether a table loads, or refusal 15.
 // Not: 28 bytes load; limits 5 apart load; the limits in each other's place.
-pub fn load_refusal(table: &[u8]) -> u8
-    ensures { result ≡ load_refusal table.now }
+#[tactic(auto, using(crate::proofs::Bytes::all_small), unfolding(rules::specs::Loading::load_refusal, rules::specs::Loading::loads, rules::specs::Refusals::limits_apart, rules::specs::Registers::settings_from, rules::specs::Registers::slot))]
+pub fn check_table(table: &[u8]) -> Result<(), Refusal>
+    ensures { number result ≡ load_refusal table.now }
 {
-    if table.len() != REGISTERS {
-        return 15;
+    if table.len() == REGISTERS
+        && within(table)
+        && writes::limits_apart(table[REJECT_SLOT], table[QUALIFICATION_SLOT])
+    {
+        Ok(())
+    } else {
+        Err(Refusal::TableNotLoaded)
     }
-    if !within(table) {
-        return 15;
-    }
-    if !writes::limits_apart(table[REJECT_SLOT], table[QUALIFICATION_SLOT]) {
-        return 15;
-    }
-    0
 }
 
 // ---- the unit
 
-// What is stored of a table's byte in slot k. Slots 0 to 7 are 0x1c to 0x23, whose bits 7-4 are dropped.
-fn kept(k: usize, v: u8) -> u8
-    ensures { result ≡ (if ltb k 8 then v % 16 else v) }
+// What is stored in slot k: of the table's byte there, and 0 past it. Slots 0 to 7 are 0x1c to 0x23, whose bits 7-4 are dropped.
+#[tactic(auto, unfolding(rules::specs::Registers::slot, rules::specs::Registers::stored, rules::specs::Registers::settings_from))]
+fn kept(table: &[u8], k: usize) -> u8
+    requires { length table.now ≡ map_size }
+    ensures { (a : ℕ) → slot a ≡ k → result ≡ stored a (settings_from table.now a) }
 {
+    let v = table.get(k).copied().unwrap_or(0);
     if k < 8 { v % 16 } else { v }
 }
 
@@ -77,48 +67,16 @@ fn registers_from(table: &[u8]) -> Registers
     requires { length table.now ≡ map_size }
     ensures { settings_from result ≡ (λ a. stored a (settings_from table.now a)) }
 {
-    let mut regs = [0u8; SLOTS];
-    for k in 0..REGISTERS {
-        regs[k] = kept(k, table[k]);
-    }
-    regs
+    std::array::from_fn(|k| kept(table, k))
 }
 
-// The rule `loading`, on a unit whose arrays are lent: it is made anew of a table that loads, or number 15 and the same unit.
+// The rule `loading`: the unit is made anew of a table that loads, or refusal 15 and the same unit.
 // Not: the byte beside it stored; a refusal makes the unit anew.
-pub fn load(
-    k: Core,
-    level: &mut Row,
-    decay: &mut Row,
-    activity: &mut Row,
-    frequency: &mut Row,
-    remainder: &mut Row,
-    soak: &mut Row,
-    sets: &mut [u32; 4],
-    assigned: &mut Row,
-    sums: &mut Sums,
-    building: &mut Sums,
-    backup: &mut Sums,
-    windows: &mut Windows,
-    regs: &mut Registers,
-    table: &[u8],
-) -> Stepped
-    ensures { wholly level decay activity frequency remainder soak sets assigned sums building backup windows regs (λ before after. Leads (before k) (loading table.now) result.refusal (after result.core)) }
+#[tactic(auto, unfolding(rules::specs::Loading::load_refusal, rules::specs::Loading::loads, rules::specs::Loading::loading, rules::specs::Loading::fresh_from))]
+pub fn load(u: &mut Unit, table: &[u8]) -> Result<(), Refusal>
+    ensures { Leads u.old (loading table.now) (number result) u.new }
 {
-    let number = load_refusal(table);
-    if number == 0 {
-        let values = registers_from(table);
-        let made = state::make_with(
-            level, decay, activity, frequency, remainder, soak, sets, assigned, sums, building,
-            backup, windows, regs, &values,
-        );
-        return Stepped {
-            refusal: 0,
-            core: made,
-        };
-    }
-    Stepped {
-        refusal: number,
-        core: k,
-    }
+    check_table(table)?;
+    u.make_with(&registers_from(table));
+    Ok(())
 }

@@ -101,7 +101,17 @@ fn soak_of(activity: u16, frequency: u16, remainder: u16, soak: u16) -> u16
 fn irregular_row(mask: u8) -> Row
     ensures { result ≡ eight (weight mask) }
 {
-    from_fn(|k| u16::from(mask) / (1 << k) % 2 * (256 << k))
+    let m = u16::from(mask);
+    [
+        m / 1 % 2 * 256,
+        m / 2 % 2 * 512,
+        m / 4 % 2 * 1024,
+        m / 8 % 2 * 2048,
+        m / 16 % 2 * 4096,
+        m / 32 % 2 * 8192,
+        m / 64 % 2 * 16384,
+        m / 128 % 2 * 32768,
+    ]
 }
 
 fn level_row(s: Row, t: Row, b: Row, l: Row, d: Row) -> Row

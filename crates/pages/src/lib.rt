@@ -3,9 +3,9 @@
 // there is too little room.
 #![tactic(auto)]
 
-ghost use Rattle.std.specs.Prelude.{◌≡◌, [], ◌∷◌, ◌++◌, ◌*◌, ltb, length};
+ghost use Rattle.std.specs.Prelude.{◌≡◌, [], ◌∷◌, ◌++◌, ◌*◌, ltb};
 ghost use Rattle.rules.specs.Printout.{line_feed};
-ghost use Rattle.rules.specs.Pages.{left_in, state_name, record_columns, page_bytes, page_count, blanks, line_columns};
+ghost use Rattle.rules.specs.Pages.{left_in, state_name, record_columns, page_bytes, page_count};
 ghost use Rattle.digits.specs.Puts.{Puts};
 ghost use Rattle.pages.specs.Output.{laid_out};
 

@@ -1,2 +1,3 @@
 -- What the rack program's contract says.
 pub mod Front
+pub mod Read

@@ -1,5 +1,6 @@
 // What a read of a register shows (document 01, "Registers"): hours, state and status, the value, masks and counts, and the settings.
 // Each contract is an equation with a rule of crates/rules/specs/Reading.antt; the rule is named above the function.
+// A mode is the stored number of crate pll, which C hands over.
 #![tactic(auto)]
 
 ghost use Rattle.std.specs.Prelude.{◌≡◌, ◌<◌, min};

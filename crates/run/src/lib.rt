@@ -106,18 +106,27 @@ pub fn run_into(sheet: &[u8], out: &mut [u8]) -> usize
     let Ok(c) = sheet::check(sheet, out.len()) else {
         return 0;
     };
-    let mut u = Unit::fresh();
-    let mut handed = selection::handed_by(&u.regs);
-    u.core = run_settings(
+    let fresh = Unit::fresh();
+    // What a setting may change lies apart from the rest: so the compiler knows the sets of a fresh unit in the loop of the events.
+    let mut regs = fresh.regs;
+    let mut history = fresh.history;
+    let mut handed = selection::handed_by(&regs);
+    let core = run_settings(
         &sheet[2..],
         c.settings,
-        u.core,
-        &u.monitors,
-        &mut u.regs,
+        fresh.core,
+        &fresh.monitors,
+        &mut regs,
         &mut handed,
-        &mut u.history,
+        &mut history,
         &mut out[..],
     );
+    let u = Unit {
+        core,
+        history,
+        regs,
+        ..fresh
+    };
     let start = 2 + 2 * c.settings + 2;
     let next = 4 * c.settings;
     run_events(&sheet[start..], c.events, u, handed, &mut out[next..]);

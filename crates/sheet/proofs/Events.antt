@@ -5,7 +5,7 @@ use Rattle.rules.specs.Sheet.{is_event, decode, all_events}
 
 module _ (x rest : List ℕ) (eight : length x ≡ 8) where
   -- it is what its own bytes decode to
-  first_event : decode (x ++ rest) ≡ decode x
+  pub first_event : decode (x ++ rest) ≡ decode x
   unfolding decode
   first_event =
       let byte : (k : ℕ) → k < 8 → get_or (x ++ rest) k 0 ≡ get_or x k 0 = λ k h. get_or-append x rest 0 k (omega arith) in

@@ -21,9 +21,9 @@ pub fn read_event(part: &[u8]) -> Result<Event, Refusal>
     ensures short { length part.now < 8 → decoded_of result ≡ rules.bad }
     ensures number { number result ≡ rules.decoded_number (decoded_of result) }
 {
-    match part {
+    match *part {
         [kind, a, b, 0, w0, w1, w2, w3, ..] => {
-            fields::decode(*kind, *a, *b, i32::from_le_bytes([*w0, *w1, *w2, *w3]))
+            fields::decode(kind, a, b, i32::from_le_bytes([w0, w1, w2, w3]))
         }
         _ => Err(Refusal::NoEvent),
     }

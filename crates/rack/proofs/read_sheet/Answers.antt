@@ -22,7 +22,6 @@ loop-n-preserved g c =
     let joined : take n old ++ take c.in-Ok.more c.read.new.buf ≡ take (n + c.in-Ok.more) new =
     sym (take-add n c.in-Ok.more new ∙ rw (front, behind)) in
     record {
-      long = search rules;
       within = search rules;
       bytes = subst (Consumes _ _) joined (Consumes-trans _ _ _ _ _ c.loop-n.invariant.bytes c.in-Ok.ensures.bytes.0);
     }

@@ -29,9 +29,9 @@ returns-clause-value c =
 pub returns-clause-out_after : goal.returns-clause-out_after
 returns-clause-out_after c =
     let a = c.args in
-    let u = c.fresh-u.result in
-    let settled = c.run_settings-u.ensures in
+    let u = c.fresh-fresh.result in
+    let settled = c.run_settings-core.ensures in
     let n = c.in-Ok.ensures.counts in
-    all_written a.sheet.now a.out.now c.run_settings-u.new.out c.run_events.new.out _ _ _ _
+    all_written a.sheet.now a.out.now c.run_settings-core.new.out c.run_events.new.out _ _ _ _
     (sym c.in-Ok.ensures.number) n.0 n.1
-    c.fresh-u.ensures (settled.rule u.buckets u.windows) (settled.out_after u.buckets u.windows) c.run_events.ensures
+    c.fresh-fresh.ensures (settled.rule u.buckets u.windows) (settled.out_after u.buckets u.windows) c.run_events.ensures
