@@ -1,9 +1,10 @@
 // Small functions on numbers that several crates use. None has an early return, so that eight lanes can be computed side by side.
 #![tactic(auto)]
 
-ghost use Rattle.std.specs.Prelude.{◌≡◌, ◌-◌, false, get_or, if◌then◌else◌};
+ghost use Rattle.std.specs.Prelude.{◌≡◌, ◌-◌, ◌<◌, ℕ, false, get_or, if◌then◌else◌};
 ghost use Rattle.rules.specs.Words.{is_input, is_tracked, is_counted};
 ghost use Rattle.rules.specs.Reading.{mask_up_to};
+ghost use Rattle.arith.specs.Eight.{Eight};
 
 // The rules' choice by a test.
 // Not: always the first; the second where the test passes.
@@ -21,6 +22,16 @@ pub fn is_input(c: u32) -> bool
     ensures counted { result ≡ is_counted c }
 {
     1 <= c && c <= 8
+}
+
+// The values that a function gives for the lanes 0 to 7. The calls are written out: the compiler computes those side by side, and not those of a loop as that of
+// `std::array::from_fn`.
+// Not: lane 0's value for all; the lanes in the other order.
+pub fn eight_of<T: Copy, F: Fn(usize) -> T>(f: F) -> [T; 8]
+    requires { (k : ℕ) → k < 8 → F.pre f k }
+    ensures { Eight (F.post f) result }
+{
+    [f(0), f(1), f(2), f(3), f(4), f(5), f(6), f(7)]
 }
 
 // The mask of eight tests, the first in bit 0. It is summed in wider numbers, so that eight tests can be weighed side by side.

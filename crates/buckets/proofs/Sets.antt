@@ -6,6 +6,7 @@ use mathlib.Core.Bool.{Bool, true, false, false≢true}
 use native.Mathlib.Omega.{arith}
 use native.Mathlib.Nat.{mod-lt}
 use lib.Dec.{eqb}
+use mathlib.Core.List.{[], ◌∷◌}
 use lib.ListN.{get_or, set}
 use Rattle.rules.specs.Words.{is_input}
 use Rattle.rules.specs.Buckets.{bucket_from, start_bucket, with_set, with_assigned}
@@ -124,3 +125,13 @@ four_at f d (suc (suc (suc (suc n)))) h = absurd (omega arith)
 pub set_at : (b : Buckets) (n : ℕ) → bucket_in (get_or b.sets (n % 4) 0) ≡ get_or (buckets_of b).sets (n % 4) start_bucket
 unfolding buckets_of
 set_at b n = sym (four_at (λ k. bucket_in (get_or b.sets k 0)) start_bucket (n % 4) (mod-lt n (omega arith)))
+
+-- ---- the choice by tests
+
+-- of four values, by tests as by its place
+pub by_tests : (a b c d n : ℕ) → n < 4 → (if eqb n 1 then b else (if eqb n 2 then c else (if eqb n 3 then d else a))) ≡ get_or (a ∷ b ∷ c ∷ d ∷ []) n 0
+by_tests a b c d zero h = refl
+by_tests a b c d (suc zero) h = refl
+by_tests a b c d (suc (suc zero)) h = refl
+by_tests a b c d (suc (suc (suc zero))) h = refl
+by_tests a b c d (suc (suc (suc (suc n)))) h = absurd (omega arith)

@@ -10,7 +10,7 @@ ghost use Rattle.rules.specs.Refusals.{set_refusal, assign_refusal};
 ghost use Rattle.refusals.specs.Number.{number};
 ghost use Rattle.buckets.specs.Bridge.{four, eight, byte_of, bucket_in, word_of, word_from, with_word, with_number, buckets_of, numbers_of};
 
-use arith::{either, is_input};
+use arith::{eight_of, either, is_input};
 use refusals::Refusal;
 use std::array::from_fn;
 
@@ -74,7 +74,7 @@ fn halves_of(sets: [u32; 4], unit: u32) -> [u16; 4]
 fn of_sets(assigned: Row, numbers: [u16; 4]) -> Row
     ensures { result ≡ eight (λ k. get_or numbers (get_or assigned k 0 % 4) 0) }
 {
-    from_fn(|k| of_set(assigned[k], numbers))
+    eight_of(|k| of_set(assigned[k], numbers))
 }
 
 // A byte of each half: that of the unit 1 or 256.
@@ -82,7 +82,7 @@ fn bytes_of(row: Row, unit: u16) -> Row
     requires { 1 ≤ unit }
     ensures { result ≡ eight (λ k. byte_of (get_or row k 0) unit) }
 {
-    row.map(|half| half / unit % 256)
+    eight_of(|k| row[k] / unit % 256)
 }
 
 // For each input the numbers of its set: sizes, set levels, clear levels, and last decay counts.
@@ -123,7 +123,7 @@ pub fn having(assigned: Row, n: u8) -> Row
     ensures { result ≡ eight (λ k. if eqb (get_or assigned k 0 % 4) n then 1 else 0) }
 {
     let set = u16::from(n);
-    from_fn(|k| either(assigned[k] % 4 == set, 1, 0))
+    eight_of(|k| either(assigned[k] % 4 == set, 1, 0))
 }
 
 // ---- what turns a call down
@@ -202,7 +202,7 @@ pub fn with_set(b: Buckets, n: u8, size: u8, high: u8, low: u8, d: u8) -> Bucket
 pub fn at_input(row: Row, i: u32, values: Row) -> Row
     ensures { result ≡ eight (λ k. if eqb i (k + 1) then get_or values k 0 else get_or row k 0) }
 {
-    from_fn(|k| either(i as usize == k + 1, values[k], row[k]))
+    eight_of(|k| either(i as usize == k + 1, values[k], row[k]))
 }
 
 // The set numbers with input i's anew: the rule `with_assigned`, of an input 1 to 8 and a set 0 to 3 (`assigned_anew` in proofs/Sets).

@@ -1,2 +1,3 @@
 -- The proofs of the calls.
 pub mod Concerned
+pub mod Decoded

@@ -13,7 +13,7 @@ ghost use Rattle.buckets.specs.Bridge.{eight};
 ghost use Rattle.inputs.specs.Bridge.{inputs_of};
 ghost use Rattle.candidates.specs.Keys.{no_key, settings_key, keys_from};
 
-use arith::{either, is_input, mask_of};
+use arith::{eight_of, either, is_input, mask_of};
 use buckets::Row;
 use inputs::{FULL_SOAK, Monitors};
 use registers::{FREE_RUN_SLOT, MASK_SLOT, Registers};
@@ -69,7 +69,7 @@ fn held(soak: u16, key: u16) -> u16
 fn held_row(soak: Row, keys: &Keys) -> Row
     ensures { result ≡ eight (λ j. if eqb (get_or soak j 0) full_soak then get_or keys.now j 0 else no_key) }
 {
-    from_fn(|j| held(soak[j], keys[j]))
+    eight_of(|j| held(soak[j], keys[j]))
 }
 
 // The least of eight keys and a ninth. Halves are compared with halves, so that four at a time can be.

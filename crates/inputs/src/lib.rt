@@ -13,7 +13,7 @@ ghost use Rattle.buckets.specs.Bridge.{eight};
 ghost use Rattle.rules.specs.Reading.{qualified_mask};
 ghost use Rattle.inputs.specs.Bridge.{is_set, frequency_number, inputs_of, with_activity, with_frequency, with_lock_alarms, with_soak};
 
-use arith::{either, is_input, mask_of};
+use arith::{eight_of, either, is_input, mask_of};
 use buckets::{Row, at_input};
 use std::array::from_fn;
 
@@ -51,14 +51,14 @@ fn frequency_of(reject: u16, limit: u16, magnitude: u16, frequency: u16) -> u16
 fn judged(row: Row, reject: u16, limit: u16, magnitude: u16) -> Row
     ensures { result ≡ eight (λ k. frequency_number reject limit magnitude (get_or row k 0)) }
 {
-    row.map(|frequency| frequency_of(reject, limit, magnitude, frequency))
+    eight_of(|k| frequency_of(reject, limit, magnitude, row[k]))
 }
 
 // One value for each input that is concerned; the others keep theirs.
 fn replaced(concerned: Row, v: u16, row: Row) -> Row
     ensures { result ≡ eight (λ k. if is_set (get_or concerned k 0) then v else get_or row k 0) }
 {
-    from_fn(|k| either(concerned[k] != 0, v, row[k]))
+    eight_of(|k| either(concerned[k] != 0, v, row[k]))
 }
 
 // The test of each input's soak: it is that of a qualified input.

@@ -9,10 +9,9 @@ ghost use Rattle.buckets.specs.Bridge.{eight, ticks_of, bucket_at};
 ghost use Rattle.inputs.specs.Bridge.{is_set, inputs_of};
 ghost use Rattle.monitor.specs.Rows.{weight, decay_number, activity_number};
 
-use arith::either;
+use arith::{eight_of, either};
 use buckets::{Numbers, Row};
 use inputs::{FULL_SOAK, Monitors};
-use std::array::from_fn;
 
 // ---- one input: `size`, `high`, `low` and `last` are its bucket's size, set level, clear level and last decay count
 
@@ -102,46 +101,37 @@ fn irregular_row(mask: u8) -> Row
     ensures { result ≡ eight (weight mask) }
 {
     let m = u16::from(mask);
-    [
-        m / 1 % 2 * 256,
-        m / 2 % 2 * 512,
-        m / 4 % 2 * 1024,
-        m / 8 % 2 * 2048,
-        m / 16 % 2 * 4096,
-        m / 32 % 2 * 8192,
-        m / 64 % 2 * 16384,
-        m / 128 % 2 * 32768,
-    ]
+    eight_of(|k| m / (1 << k) % 2 * (256 << k))
 }
 
 fn level_row(s: Row, t: Row, b: Row, l: Row, d: Row) -> Row
     ensures { result ≡ eight (λ k. level_after (get_or s k 0) (ticks_of (get_or t k 0)) (is_set (get_or b k 0)) (get_or l k 0) (get_or d k 0)) }
 {
-    from_fn(|k| level_of(s[k], t[k], b[k] != 0, l[k], d[k]))
+    eight_of(|k| level_of(s[k], t[k], b[k] != 0, l[k], d[k]))
 }
 
 fn decay_row(t: Row, b: Row, d: Row) -> Row
     ensures { result ≡ eight (λ k. decay_number (get_or t k 0) (get_or b k 0) (get_or d k 0)) }
 {
-    from_fn(|k| decay_of(t[k], b[k], d[k]))
+    eight_of(|k| decay_of(t[k], b[k], d[k]))
 }
 
 fn activity_row(h: Row, w: Row, l: Row, a: Row) -> Row
     ensures { result ≡ eight (λ k. activity_number (get_or h k 0) (get_or w k 0) (get_or l k 0) (get_or a k 0)) }
 {
-    from_fn(|k| activity_of(h[k], w[k], l[k], a[k]))
+    eight_of(|k| activity_of(h[k], w[k], l[k], a[k]))
 }
 
 fn remainder_row(r: Row) -> Row
     ensures { result ≡ eight (λ k. get_or r k 0 - 1) }
 {
-    r.map(|remainder| down(remainder))
+    eight_of(|k| down(r[k]))
 }
 
 fn soak_row(a: Row, f: Row, r: Row, s: Row) -> Row
     ensures { result ≡ eight (λ k. soak_after (good (is_set (get_or a k 0)) (is_set (get_or f k 0)) (get_or r k 0)) (get_or s k 0)) }
 {
-    from_fn(|k| soak_of(a[k], f[k], r[k], s[k]))
+    eight_of(|k| soak_of(a[k], f[k], r[k], s[k]))
 }
 
 // The rule `watched`: steps 1 and 2, in the rows where they lie, with the buckets of these four rows. The frequency alarms stay.

@@ -50,11 +50,11 @@ blank_text n j l h = rw (← h) refl
 
 module _ (n : ℕ) (records : List ℕ) where
   -- line j behind the first j lines
-  pub one_line : (j : ℕ) (before : List ℕ) {out text w : List ℕ} {next : ℕ}
+  pub line_behind : (j : ℕ) (before : List ℕ) {out text w : List ℕ} {next : ℕ}
       → line_bytes * j + line_bytes ≤ length out → out ≡ over (joined (page_line n records) j 0) before → text ≡ page_line n records j
       → Puts text 0 (mid_of (line_bytes * j) (line_bytes * j + line_bytes - line_bytes * j) out) next w
       → put_mid (line_bytes * j) (line_bytes * j + line_bytes - line_bytes * j) out w ≡ over (joined (page_line n records) (j + 1) 0) before
-  one_line j before {out} {text} {w} h e same p =
+  line_behind j before {out} {text} {w} h e same p =
       let at = line_bytes * j in
       let lines = joined (page_line n records) j 0 in
       let long = length_line n records j in
@@ -64,5 +64,5 @@ module _ (n : ℕ) (records : List ℕ) where
       ∙ rw put refl)
 
   -- all lines are put
-  pub all_put : (j : ℕ) (before : List ℕ) → j ≡ page_lines * page_count n → over (joined (page_line n records) j 0) before ≡ over (pages_of n records) before
-  all_put j before all = rw (all_lines, all) refl
+  pub lines_are_pages : (j : ℕ) (before : List ℕ) → j ≡ page_lines * page_count n → over (joined (page_line n records) j 0) before ≡ over (pages_of n records) before
+  lines_are_pages j before all = rw (all_lines, all) refl

@@ -1,2 +1,3 @@
 -- Laws of the delay.
 pub mod Floor
+pub mod Table

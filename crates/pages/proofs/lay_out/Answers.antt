@@ -2,7 +2,7 @@
 use Rattle.std.proofs.Common.{◌≡◌, ◌+◌, ◌*◌, ◌≤◌, ◌/◌, [], length, refl, sym, ◌∙◌, arith}
 use Rattle.rules.specs.Pages.{line_bytes, page_lines, page_count, joined}
 use Rattle.pages.specs.Output.{laid_out}
-use Rattle.pages.proofs.Turns.{pages_are, has_room, record_text, blank_text, one_line, all_put}
+use Rattle.pages.proofs.Turns.{pages_are, has_room, record_text, blank_text, line_behind, lines_are_pages}
 use Rattle.pages.proofs.lay_out.Goals as goal
 use Rattle.pages.proofs.lay_out.Goals.{in-Some, in-None}
 
@@ -23,11 +23,11 @@ loop-j-preserved c =
         | in-Some w ↦
             let found = (w.in-Some.ensures {u = tt}).lookup in
             let text = record_text _ _ _ c.as_chunks.ensures.front (rw c.as_chunks.ensures.front_len at found.0) (found.3.1 []) in
-            rw w.out-is (one_line _ _ _ _ here c.loop-j.invariant.put text w.put_columns.ensures)
+            rw w.out-is (line_behind _ _ _ _ here c.loop-j.invariant.put text w.put_columns.ensures)
         | in-None w ↦
             let none = (w.in-None.ensures {u = tt}).lookup in
             let text = blank_text _ _ _ (rw c.as_chunks.ensures.front_len at none.0) in
-            rw w.out-is (one_line _ _ _ _ here c.loop-j.invariant.put text w.put_word.ensures)
+            rw w.out-is (line_behind _ _ _ _ here c.loop-j.invariant.put text w.put_word.ensures)
       ];
     }
 
@@ -36,4 +36,4 @@ unfolding laid_out
 returns c =
     let some : c.loop-j.j ≡ page_lines * page_count (length c.args.records.now / 4) = omega (arith, pages_are (length c.args.records.now / 4)) in
     rw (← c.as_chunks.ensures.front_len, sym c.too_short.ensures ∙ c.if-too_short.false, c.as_chunks.ensures.front_len)
-    (c.loop-j.invariant.put ∙ all_put _ _ _ _ some)
+    (c.loop-j.invariant.put ∙ lines_are_pages _ _ _ _ some)

@@ -1,0 +1,2 @@
+-- What the contracts of the small functions cite.
+pub mod Eight
