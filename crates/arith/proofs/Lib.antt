@@ -1,4 +1,3 @@
 -- Laws that several crates' proofs use.
 pub mod Laws
 pub mod Signed
-pub mod Weights

@@ -1,7 +1,7 @@
 // Small functions on numbers that several crates use. None has an early return, so that eight lanes can be computed side by side.
 #![tactic(auto)]
 
-ghost use Rattle.std.specs.Prelude.{◌≡◌, ◌-◌, ◌<◌, ℕ, false, get_or, if◌then◌else◌};
+ghost use Rattle.std.specs.Prelude.{◌≡◌, ◌-◌, ◌^◌, ◌<◌, ◌≤◌, ℕ, false, get_or, if◌then◌else◌};
 ghost use Rattle.rules.specs.Words.{is_input, is_tracked, is_counted};
 ghost use Rattle.rules.specs.Reading.{mask_up_to};
 ghost use Rattle.arith.specs.Eight.{Eight};
@@ -34,14 +34,21 @@ pub fn eight_of<T: Copy, F: Fn(usize) -> T>(f: F) -> [T; 8]
     [f(0), f(1), f(2), f(3), f(4), f(5), f(6), f(7)]
 }
 
-// The mask of eight tests, the first in bit 0. It is summed in wider numbers, so that eight tests can be weighed side by side.
+// What a test adds to a mask: the weight of its lane, or 0.
+fn weigh(test: bool, k: usize) -> u16
+    requires { k < 8 }
+    ensures { (result ≡ (if test then 2 ^ k else 0)) × (result ≤ 2 ^ k) }
+{
+    either(test, 1 << k, 0)
+}
+
+// The mask of eight tests, the first in bit 0. It is summed in wider numbers, and the last test first, so that eight tests are weighed side by side.
 // Not: a test in its neighbour's bit; the first test in bit 7.
+#[tactic(auto, unfolding(rules::specs::Reading::mask_up_to))]
 pub fn mask_of(tests: [bool; 8]) -> u8
     ensures { result ≡ mask_up_to (λ i. get_or tests (i - 1) false) 8 }
 {
-    let mut sum: u16 = 0;
-    for k in 0..8 {
-        sum += either(tests[k], 1 << k, 0);
-    }
+    let w = eight_of(|k| weigh(tests[k], k));
+    let sum = w[7] + (w[6] + (w[5] + (w[4] + (w[3] + (w[2] + (w[1] + w[0]))))));
     sum as u8
 }
