@@ -53,7 +53,8 @@ fn key_of(regs: &Registers, k: usize) -> u16
 pub fn keys_of(regs: &Registers) -> Keys
     ensures { result ≡ keys_from (settings_from regs.now) }
 {
-    from_fn(|k| key_of(regs, k))
+    let [a, b, c, d, e, f, g, h] = eight_of(|k| key_of(regs, k));
+    [a, b, c, d, e, f, g, h, key_of(regs, FREE_RUN_SLOT)]
 }
 
 // ---- the best candidate

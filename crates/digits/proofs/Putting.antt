@@ -17,14 +17,14 @@ sets_out : (l : List ℕ) (at : ℕ) (x : List ℕ) → length l ≤ at → sets
 sets_out l at [] h = refl
 sets_out l at (a ∷ x) h = ap (λ m. sets m (suc at) x) (set_out l at a h) ∙ sets_out l (suc at) x (omega arith)
 
-sets_append : (x y l : List ℕ) (at : ℕ) → sets l at (x ++ y) ≡ sets (sets l at x) (at + length x) y
+pub sets_append : (x y l : List ℕ) (at : ℕ) → sets l at (x ++ y) ≡ sets (sets l at x) (at + length x) y
 sets_append [] y l at = ap (λ n. sets l n y) (sym (add-zero at))
 sets_append (a ∷ x) y l at = sets_append x y (set l at a) (suc at) ∙ ap (λ n. sets (sets (set l at a) (suc at) x) n y) (omega arith)
 
 pub nothing : {l : List ℕ} {at : ℕ} → Puts [] at l at l
 nothing {l} {at} = record { ends = omega arith; stored = refl }
 
-same_length : {x before after : List ℕ} {at next : ℕ} → Puts x at before next after → length after ≡ length before
+pub same_length : {x before after : List ℕ} {at next : ℕ} → Puts x at before next after → length after ≡ length before
 same_length {x} {before} {after} {at} p = ap length p.stored ∙ length-sets before at x
 
 -- from the place that x was put up to, or from the one where it ends: y is stored alike
@@ -50,7 +50,7 @@ then {x} {y} {before} {between} {after} {at} {next} {end} p q =
     }
 
 -- a text at the front, where there is room for it
-sets_front : (text before : List ℕ) → length text ≤ length before → sets before 0 text ≡ over text before
+pub sets_front : (text before : List ℕ) → length text ≤ length before → sets before 0 text ≡ over text before
 sets_front text before h = sets-eq text before 0 (omega arith) ∙ ap (λ n. text ++ drop n before) (zero-add (length text))
 
 pub from_front :

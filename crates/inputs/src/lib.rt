@@ -1,12 +1,11 @@
 // The eight inputs' stored numbers (document 01, "Monitors"): fresh, which are qualified, one of them altered by a measurement, a lock alarm or a Hit, and
 // some of them put at their bucket's size by a call (document 02, #104).
-// Each number has a row of eight, input 1 first. An alteration makes the whole row anew and stores at no computed place, so that the rows of a unit that a sheet
-// runs on can lie in registers.
+// Each number has a row of eight, input 1 first. An alteration makes the whole row anew, eight lanes side by side.
 #![tactic(auto)]
 
 ghost use Rattle.std.specs.Prelude.{◌≡◌, ◌-◌, ◌&&◌, eqb, nat_abs, get_or, replicate, if◌then◌else◌};
 ghost use Rattle.rules.specs.Words.{is_input};
-ghost use Rattle.rules.specs.Monitors.{qualified, unsoaked, lock_alarmed, measured, fresh_input};
+ghost use Rattle.rules.specs.Monitors.{full_soak, qualified, unsoaked, lock_alarmed, measured, fresh_input};
 ghost use Rattle.rules.specs.Inputs.{input, altered};
 ghost use Rattle.rules.specs.Buckets.{put_at_size};
 ghost use Rattle.buckets.specs.Bridge.{eight};
@@ -63,7 +62,7 @@ fn replaced(concerned: Row, v: u16, row: Row) -> Row
 
 // The test of each input's soak: it is that of a qualified input.
 fn full(soak: Row) -> [bool; 8]
-    ensures { result ≡ eight (λ k. eqb (get_or soak k 0) 79) }
+    ensures { result ≡ eight (λ k. eqb (get_or soak k 0) full_soak) }
 {
     from_fn(|k| soak[k] == FULL_SOAK)
 }
@@ -145,8 +144,6 @@ impl Monitors {
     pub fn qualified_at(&self, c: u32) -> bool
         ensures { result ≡ (is_input c && qualified (input (inputs_of self.now) c)) }
     {
-        // on a copy, so that no row of a unit is read at a computed place
-        let soak = self.soak;
-        is_input(c) && soak[c as usize - 1] == FULL_SOAK
+        is_input(c) && self.soak[c as usize - 1] == FULL_SOAK
     }
 }

@@ -1,5 +1,4 @@
--- THE STORED STATE, named once: the rules' state that it is, and what it is with another part. A contract speaks of one stored state, and replaces in it what
--- its function is lent.
+-- THE STORED STATE, named once: the rules' state that it is, and what is said of it.
 use Rattle.std.specs.Prelude.{◌≡◌, List, ℕ, ℤ}
 use Rattle.rules.specs.History.{fresh_history}
 use Rattle.rules.specs.Selection.{settled}
@@ -51,26 +50,6 @@ Made u = meaning u ≡ fresh
 abbrev pub unit_of : Core → Monitors → Buckets → History → List ℕ → List ℕ → Stored
 unit_of core monitors buckets history windows regs =
     record { core = core; monitors = monitors; buckets = buckets; history = history; windows = windows; regs = regs }
-
--- ---- with another part
-
-abbrev pub with_core : Core → Stored → Stored
-with_core x s = record { core = x; monitors = s.monitors; buckets = s.buckets; history = s.history; windows = s.windows; regs = s.regs }
-
-abbrev pub with_rows : Monitors → Stored → Stored
-with_rows x s = record { core = s.core; monitors = x; buckets = s.buckets; history = s.history; windows = s.windows; regs = s.regs }
-
-abbrev pub with_sets : Buckets → Stored → Stored
-with_sets x s = record { core = s.core; monitors = s.monitors; buckets = x; history = s.history; windows = s.windows; regs = s.regs }
-
-abbrev pub with_history : History → Stored → Stored
-with_history x s = record { core = s.core; monitors = s.monitors; buckets = s.buckets; history = x; windows = s.windows; regs = s.regs }
-
-abbrev pub with_windows : List ℕ → Stored → Stored
-with_windows x s = record { core = s.core; monitors = s.monitors; buckets = s.buckets; history = s.history; windows = x; regs = s.regs }
-
-abbrev pub with_registers : List ℕ → Stored → Stored
-with_registers x s = record { core = s.core; monitors = s.monitors; buckets = s.buckets; history = s.history; windows = s.windows; regs = x }
 
 -- a core with another tally
 abbrev pub with_tally : Tally → Core → Core

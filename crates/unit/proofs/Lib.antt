@@ -1,5 +1,4 @@
 -- The proofs of the unit.
 pub mod Outcomes
 pub mod Given
-pub mod Range
 pub mod Followed

@@ -2,7 +2,7 @@
 use Rattle.std.proofs.Common.{ℕ, length, sym, ap, ◌∙◌, arith}
 use Rattle.std.proofs.Math.ListN.{replicate, length-replicate}
 use Rattle.rules.specs.Sheet.{check}
-use Rattle.sheet.proofs.Refused.{some_number}
+use Rattle.refusals.proofs.Numbers.{refused as no_zero}
 use Rattle.text.specs.Text.{records_text}
 use Rattle.rack.proofs.Room.{refusal_room, records_room}
 use Rattle.rack.proofs.Printed.{at_front, printed_refusal, printed_records}
@@ -12,7 +12,7 @@ pub returns-in-Err : goal.returns-in-Err
 returns-in-Err c =
     let number = c.from.ensures ∙ (c.in-Err.ensures {u = tt}).number in
     let room = refusal_room c.from.result (omega arith) in
-    at_front (printed_refusal c.args.sheet.now c.from.result number (λ z. some_number c.in-Err.refusal (sym c.from.ensures ∙ z))) (omega arith) c.refused.ensures
+    at_front (printed_refusal c.args.sheet.now c.from.result number (λ z. no_zero c.in-Err.refusal (sym c.from.ensures ∙ z))) (omega arith) c.refused.ensures
 
 pub returns : goal.returns
 returns c =
