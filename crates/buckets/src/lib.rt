@@ -30,15 +30,7 @@ pub struct Buckets {
 
 // "Each input has one of four sets, at first set 0 .. All sets start as 8, 6, 4, 1."
 // Not: a decay of 1 tick; set 1 for input 8.
-#[tactic(
-    auto,
-    unfolding(
-        crate::specs::Bridge::buckets_of,
-        rules::specs::Buckets::fresh_buckets,
-        rules::specs::Buckets::start_bucket,
-        rules::specs::Buckets::bucket_from
-    )
-)]
+#[tactic(auto, unfolding(crate::specs::Bridge::buckets_of, rules::specs::Buckets::fresh_buckets, rules::specs::Buckets::start_bucket, rules::specs::Buckets::bucket_from))]
 pub fn fresh_buckets() -> Buckets
     ensures { buckets_of result ≡ fresh_buckets }
 {
@@ -58,7 +50,11 @@ fn of_set(n: u16, numbers: [u16; 4]) -> u16
     either(
         set == 1,
         numbers[1],
-        either(set == 2, numbers[2], either(set == 3, numbers[3], numbers[0])),
+        either(
+            set == 2,
+            numbers[2],
+            either(set == 3, numbers[3], numbers[0]),
+        ),
     )
 }
 

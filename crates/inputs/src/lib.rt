@@ -70,13 +70,7 @@ fn full(soak: Row) -> [bool; 8]
 impl Monitors {
     // "Fresh: all counts 0, activity alarms clear, frequency alarms set"
     // Not: frequency alarms clear; a soak of 79.
-    #[tactic(
-        auto,
-        unfolding(
-            crate::specs::Bridge::inputs_of,
-            rules::specs::Monitors::fresh_input
-        )
-    )]
+    #[tactic(auto, unfolding(crate::specs::Bridge::inputs_of, rules::specs::Monitors::fresh_input))]
     pub fn fresh() -> Monitors
         ensures { inputs_of result ≡ replicate 8 fresh_input }
     {

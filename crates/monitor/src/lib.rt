@@ -61,11 +61,7 @@ fn level_of(size: u16, last: u16, bad: bool, level: u16, decay: u16) -> u16
 fn decay_of(last: u16, weight: u16, decay: u16) -> u16
     ensures { result ≡ decay_number last weight decay }
 {
-    either(
-        larger(weight, decay) < last % 256,
-        up(decay, last),
-        0,
-    )
+    either(larger(weight, decay) < last % 256, up(decay, last), 0)
 }
 
 // The rule `alarm_after`, as a number: 1 where it is set anew.
@@ -77,13 +73,7 @@ fn activity_of(high: u16, low: u16, level: u16, activity: u16) -> u16
 }
 
 // The rule `soak_after`, of an input with these alarms.
-#[tactic(
-    auto,
-    unfolding(
-        rules::specs::Monitors::good,
-        rules::specs::Monitors::soak_after
-    )
-)]
+#[tactic(auto, unfolding(rules::specs::Monitors::good, rules::specs::Monitors::soak_after))]
 fn soak_of(activity: u16, frequency: u16, remainder: u16, soak: u16) -> u16
     ensures { result ≡ soak_after (good (is_set activity) (is_set frequency) remainder) soak }
 {

@@ -68,9 +68,7 @@ fn on_tick(
 {
     let ok = in_range(x);
     if ok {
-        return Ok(tick::tick(
-            mask, lock, x, k, m, n, regs, handed, windows, h,
-        ));
+        return Ok(tick::tick(mask, lock, x, k, m, n, regs, handed, windows, h));
     }
     Err(Refusal::SampleOutOfRange)
 }
