@@ -3,7 +3,7 @@
 // decay.
 #![tactic(auto)]
 
-ghost use Rattle.std.specs.Prelude.{◌≡◌, ◌+◌, ◌-◌, ◌/◌, ◌%◌, ◌^◌, ◌≤◌, min, eqb, get_or, if◌then◌else◌};
+ghost use Rattle.std.specs.Prelude.{◌≡◌, [], ◌∷◌, ◌+◌, ◌-◌, ◌/◌, ◌%◌, ◌^◌, ◌≤◌, min, eqb, get_or, if◌then◌else◌};
 ghost use Rattle.rules.specs.Buckets as rules;
 ghost use Rattle.rules.specs.Buckets.{fresh_buckets};
 ghost use Rattle.rules.specs.Refusals.{set_refusal, assign_refusal};
@@ -42,35 +42,42 @@ pub fn fresh_buckets() -> Buckets
 
 // ---- rows of eight
 
-// Of four numbers, one for each set, that of set n: by choices and not by its place, so that eight are chosen side by side.
-fn of_set(n: u16, numbers: [u16; 4]) -> u16
-    ensures { result ≡ get_or numbers (n % 4) 0 }
+// Half of a word: that of the unit 1 or 65,536.
+fn half_of(w: u32, unit: u32) -> u16
+    requires { 1 ≤ unit }
+    ensures { result ≡ w / unit % 65_536 }
+{
+    (w / unit % 65_536) as u16
+}
+
+// Of four numbers, one for each set, that of set n: by choices and not by its place, so that eight are chosen side by side. They are four numbers and no array: a
+// short array by value is passed as one number, and cut up again by shifts.
+fn of_set(n: u16, a: u16, b: u16, c: u16, d: u16) -> u16
+    ensures { result ≡ get_or (a ∷ b ∷ c ∷ d ∷ []) (n % 4) 0 }
 {
     let set = n % 4;
-    either(
-        set == 1,
-        numbers[1],
-        either(
-            set == 2,
-            numbers[2],
-            either(set == 3, numbers[3], numbers[0]),
-        ),
-    )
+    either(set == 1, b, either(set == 2, c, either(set == 3, d, a)))
 }
 
-// Half of each set's word: that of the unit 1 or 65,536.
-fn halves_of(sets: [u32; 4], unit: u32) -> [u16; 4]
+// For each input that of its set.
+fn of_sets(assigned: Row, a: u16, b: u16, c: u16, d: u16) -> Row
+    ensures { result ≡ eight (word_of (a ∷ b ∷ c ∷ d ∷ []) assigned) }
+{
+    eight_of(|k| of_set(assigned[k], a, b, c, d))
+}
+
+// For each input half of its set's word.
+fn halves(b: &Buckets, unit: u32) -> Row
     requires { 1 ≤ unit }
-    ensures { result ≡ four (λ k. get_or sets k 0 / unit % 65_536) }
+    ensures { result ≡ eight (λ k. word_of b.now.sets b.now.assigned k / unit % 65_536) }
 {
-    sets.map(|w| (w / unit % 65_536) as u16)
-}
-
-// For each input the number of its set.
-fn of_sets(assigned: Row, numbers: [u16; 4]) -> Row
-    ensures { result ≡ eight (λ k. get_or numbers (get_or assigned k 0 % 4) 0) }
-{
-    eight_of(|k| of_set(assigned[k], numbers))
+    of_sets(
+        b.assigned,
+        half_of(b.sets[0], unit),
+        half_of(b.sets[1], unit),
+        half_of(b.sets[2], unit),
+        half_of(b.sets[3], unit),
+    )
 }
 
 // A byte of each half: that of the unit 1 or 256.
@@ -95,8 +102,8 @@ pub struct Numbers {
 pub fn numbers_of(b: Buckets) -> Numbers
     ensures { result ≡ numbers_of b }
 {
-    let lower = of_sets(b.assigned, halves_of(b.sets, 1));
-    let upper = of_sets(b.assigned, halves_of(b.sets, 65_536));
+    let lower = halves(&b, 1);
+    let upper = halves(&b, 65_536);
     Numbers {
         sizes: bytes_of(lower, 1),
         highs: bytes_of(lower, 256),

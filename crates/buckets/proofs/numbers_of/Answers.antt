@@ -1,8 +1,7 @@
 -- Each row is a byte of half the words, and so a byte of the words.
 use Rattle.std.proofs.Common.{arith, ◌≡◌, ◌∙◌, ◌*◌, ◌/◌, ◌%◌, ℕ, List, get_or, ap}
-use Rattle.std.proofs.Math.Nat.{div-div-eq-div-mul, mod-lt}
-use Rattle.buckets.specs.Bridge.{four, eight, byte_of, word_of, numbers, numbers_of}
-use Rattle.buckets.proofs.Sets.{four_at}
+use Rattle.std.proofs.Math.Nat.{div-div-eq-div-mul}
+use Rattle.buckets.specs.Bridge.{eight, byte_of, word_of, numbers, numbers_of}
 use Rattle.buckets.proofs.numbers_of.Goals as goal
 
 -- a byte of half a word, as a byte of the word
@@ -14,22 +13,12 @@ high_byte w unit =
     let byte : byte_of (w / unit % 65_536) 256 ≡ w / unit / 256 % 256 = omega arith in
     byte ∙ ap (λ (q : ℕ). q % 256) (div-div-eq-div-mul w unit 256)
 
--- of the four halves that of a set is half of its word
-half_of : (sets assigned halves : List ℕ) (unit : ℕ) → halves ≡ four (λ k. get_or sets k 0 / unit % 65_536)
-    → eight (λ k. get_or halves (get_or assigned k 0 % 4) 0) ≡ eight (λ k. word_of sets assigned k / unit % 65_536)
-half_of sets assigned halves unit e =
-    let half : ℕ → ℕ = λ k. get_or sets k 0 / unit % 65_536 in
-    (λ i. eight (λ k. get_or (e i) (get_or assigned k 0 % 4) 0))
-    ∙ (λ i. eight (λ k. four_at half 0 (get_or assigned k 0 % 4) (mod-lt (get_or assigned k 0) (omega arith)) i))
-
 pub returns : goal.returns
 unfolding numbers_of
 returns c =
-    let sets = c.args.b.sets in
-    let assigned = c.args.b.assigned in
-    let word : ℕ → ℕ = word_of sets assigned in
-    let low = c.of_sets-lower.ensures ∙ half_of sets assigned c.halves_of.result 1 c.halves_of.ensures in
-    let high = c.of_sets-upper.ensures ∙ half_of sets assigned c.halves_of-2.result 65_536 c.halves_of-2.ensures in
+    let word : ℕ → ℕ = word_of c.args.b.sets c.args.b.assigned in
+    let low = c.halves-lower.ensures in
+    let high = c.halves-upper.ensures in
     let bytes : List ℕ → ℕ → List ℕ = λ row unit. eight (λ k. byte_of (get_or row k 0) unit) in
     (λ i. numbers (c.bytes_of.ensures i) (c.bytes_of-2.ensures i) (c.bytes_of-3.ensures i) (c.bytes_of-4.ensures i))
     ∙ (λ i. numbers (bytes (low i) 1) (bytes (low i) 256) (bytes (high i) 1) (bytes (high i) 256))
