@@ -1,4 +1,5 @@
 // Small functions on numbers that several crates use. None has an early return, so that eight lanes can be computed side by side.
+// An input or a source is a number in every crate, as events, registers and the host (C interface) have it: 1 to 8, 9 for Free Run, and 0 for none.
 #![tactic(auto)]
 
 ghost use Rattle.std.specs.Prelude.{◌≡◌, ◌-◌, ◌^◌, ◌<◌, ◌≤◌, ℕ, false, get_or, if◌then◌else◌};

@@ -1,6 +1,7 @@
 // The four sets of bucket numbers and the set of each input (document 02, #104): fresh, as four rows of eight for the ticks, and set or assigned anew.
 // A set's numbers are its size, the level that sets the activity alarm, the level that clears it, and the last decay count: one less than the ticks of a
 // decay.
+// Inputs, sets and their numbers go as C hands them over (C interface): `check_set` and `check_assign` turn down what is none. Each stored number is valid.
 #![tactic(auto)]
 
 ghost use Rattle.std.specs.Prelude.{◌≡◌, [], ◌∷◌, ◌+◌, ◌-◌, ◌/◌, ◌%◌, ◌^◌, ◌≤◌, min, eqb, get_or, if◌then◌else◌};
@@ -16,11 +17,13 @@ use std::array::from_fn;
 
 // A row of eight numbers, one for each input, input 1 first. What an input has is spread over rows, one for each quantity, and not kept in a struct for each
 // input: so the eight are computed side by side.
+// A flag in a row is a number, not 0 where it is set: of the width of the numbers that are chosen by it, so that eight are chosen side by side.
 pub type Row = [u16; 8];
 
 // The sets, set 0 first, each in one word: from its lowest byte up the size, the set level, the clear level, and the last decay count. And the set of each
 // input, input 1 first: of its number the two lowest bits count. A word, since at each tick of a host two of its halves are chosen for every input, side by
 // side, and then taken apart: two choices in place of four.
+// Its functions take it first and by value, as methods would; the two that change it give it back, since a caller stores it where it lies.
 #[repr(C)]
 #[derive(Clone, Copy)]
 pub struct Buckets {
@@ -41,6 +44,7 @@ pub fn fresh_buckets() -> Buckets
 }
 
 // ---- rows of eight
+// Where a unit is asked to be 1 or more, it is divided by.
 
 // Half of a word: that of the unit 1 or 65,536.
 fn half_of(w: u32, unit: u32) -> u16

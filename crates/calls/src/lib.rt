@@ -2,6 +2,7 @@
 // assigning a set of bucket numbers; #107: setting the place in the week, and the windows). Each is lent the unit or the parts of it that it may change. A
 // refusal leaves every stored number as it was.
 // Each contract is an equation with the rule `outcome` through crates/state/specs/Stored.antt.
+// Fields, inputs, sets and windows are numbers, as C hands them over (C interface): what is none is turned down here, by the name of its refusal.
 #![tactic(auto)]
 
 ghost use Rattle.std.specs.Prelude.{◌≡◌, List, ℕ};

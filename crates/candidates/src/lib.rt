@@ -1,6 +1,8 @@
 // The candidates of the selection (document 01, step 4): the best of them, and which references are available.
 // The registers and the inputs' rows are lent for reading. The settings are `settings_from` of the registers. What follows from them alone, the keys, is made
 // after a write and handed to the ticks.
+// A candidate is its number, as `Choice` stores it, and 0 is none (crates/arith). Each contract is an equation with a rule, through `inputs_of` and
+// `settings_from`.
 #![tactic(auto)]
 
 ghost use Rattle.std.specs.Prelude.{◌≡◌, ◌+◌, ◌≤◌, ◌&&◌, min, eqb, get_or, if◌then◌else◌};
@@ -23,6 +25,7 @@ use std::array::from_fn;
 pub type Keys = [u16; 9];
 
 // Above every key; its number is 0.
+// No `Option`, and no pair of priority and number: keys are compared eight side by side, and the least has its candidate's number in it, 0 for none.
 const NO_KEY: u16 = 128;
 
 // ---- the keys
@@ -53,6 +56,7 @@ fn key_of(regs: &Registers, k: usize) -> u16
 pub fn keys_of(regs: &Registers) -> Keys
     ensures { result ≡ keys_from (settings_from regs.now) }
 {
+    // eight side by side, and that of Free Run behind them
     let [a, b, c, d, e, f, g, h] = eight_of(|k| key_of(regs, k));
     [a, b, c, d, e, f, g, h, key_of(regs, FREE_RUN_SLOT)]
 }

@@ -1,5 +1,7 @@
 // Numbers as text: in digits, put one behind the other or right-aligned in columns (document 01, "Run sheet and rack program"; document 02, #101).
 // A text is put into the lent bytes from byte `at` on, as much of it as there is room for, and the byte after it is returned (`Puts`).
+// A place goes beside the bytes, and no slice of what is left: `Puts` is of the whole output, and so says what stays before the text and after it.
+// Digits are made here, since there is no heap for a `format!`.
 // Rules are those of crates/rules/specs/Printout.antt and Pages.antt; a function that has one names it.
 #![tactic(auto)]
 

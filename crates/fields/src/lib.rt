@@ -1,5 +1,6 @@
 // The fields of one event of a run sheet (document 01, "Run sheet and rack program", and document 02, #106): kind, a, b and the word.
 // The contract is an equation with a rule of crates/rules/specs/Sheet.antt through specs/Bridge.antt; the rule is named above the function.
+// Kind, a and b are bytes, as a sheet and C hand them over (C interface): here they become an `Event`.
 #![tactic(auto)]
 
 ghost use Rattle.std.specs.Prelude.{◌≡◌};

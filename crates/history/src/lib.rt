@@ -1,6 +1,7 @@
 // The holdover history: document 01, "History (step 5)", with the building history of request #102. A tick changes the small tally, and the sums in use and
 // those that build only when a block completes.
 // Each contract is an equation with a rule of crates/rules/specs/History.antt through specs/Bridge.antt; the rule is named above the function.
+// Policy and command are the bytes of their registers, a reference is its number (crates/arith). What step 5 is told goes apart: functions take parts of it.
 #![tactic(auto)]
 
 ghost use Rattle.std.specs.Prelude.{◌≡◌, List, ℤ, ◌+ℤ◌};
@@ -11,6 +12,7 @@ ghost use Rattle.history.specs.Bridge.{kept_of, history_of, kept_in, pushed, Ste
 use arith::is_input;
 
 // What a tick changes of the history.
+// The host lends it (C interface): every number that lies there means something, so counts, flag, reference and command are numbers, and 0 says none.
 #[repr(C)]
 #[derive(Clone, Copy, Default)]
 pub struct Tally {
@@ -29,6 +31,7 @@ pub struct Tally {
 }
 
 // Block sums, newest first: those in use, those of the building history, or the backup's.
+// Always 64, and their counts in the tally: no heap, memory that the host lends (C interface), and a tally by value while the sums stay where they lie.
 pub type Sums = [i64; 64];
 
 // The block sums of a unit: those in use, those of the building history, and the backup's. What lies after the sums that the tally counts means nothing.

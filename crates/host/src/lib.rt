@@ -1,6 +1,7 @@
 // The unit's state lent by the host (document 01: "The host owns the unit's state and lends it for each event; the event updates it and touches nothing
 // else"). Eight functions are exported to C and Rust. Each lends the unit on, or the parts of it that are needed, to the function that does the work, and gives
 // the number of a refusal, or 0.
+// What a host holds after any list of calls follows from these contracts alone (crates/service): so each says in full what its call gives.
 #![tactic(auto)]
 
 ghost use Rattle.rules.specs.Events.{set_bucket, assign_bucket, set_week, set_windows};

@@ -68,6 +68,9 @@ fn full(soak: Row) -> [bool; 8]
 }
 
 impl Monitors {
+    // An input is its number, as an event or a choice has it (crates/arith): past 8 none is altered, and at 0 input 1, as by the rule `altered`.
+    // Each contract is an equation with a rule, through `inputs_of` of specs/Bridge.
+
     // "Fresh: all counts 0, activity alarms clear, frequency alarms set"
     // Not: frequency alarms clear; a soak of 79.
     #[tactic(auto, unfolding(crate::specs::Bridge::inputs_of, rules::specs::Monitors::fresh_input))]

@@ -51,6 +51,7 @@ pub fn check_table(table: &[u8]) -> Result<(), Refusal>
 }
 
 // ---- the unit
+// It is made by slot, since a table of bytes has no addresses: `kept` is `writes::stored` by slot.
 
 // What is stored in slot k: of the table's byte there, and 0 past it. Slots 0 to 7 are 0x1c to 0x23, whose bits 7-4 are dropped.
 #[tactic(auto, unfolding(rules::specs::Registers::slot, rules::specs::Registers::stored, rules::specs::Registers::settings_from))]

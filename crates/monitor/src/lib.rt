@@ -1,5 +1,6 @@
 // Tick steps 1 and 2 of the eight inputs (document 01, "Monitors (tick steps 1, 2)"): bucket, activity alarm, the lock alarm's remainder, soak.
 // Each number's row of eight is computed as a row, by a function of one input's numbers, those of its bucket among them (document 02, #104).
+// Each contract is an equation with a rule: a last count stands there for its ticks (`ticks_of`), and a row for a function of the lane (`eight`).
 #![tactic(auto)]
 
 ghost use Rattle.std.specs.Prelude.{◌≡◌, ◌+◌, ◌-◌, min, max, leb, get_or};
@@ -14,6 +15,7 @@ use buckets::{Numbers, Row};
 use inputs::{FULL_SOAK, Monitors};
 
 // ---- one input: `size`, `high`, `low` and `last` are its bucket's size, set level, clear level and last decay count
+// The first three are tests: of `saturating_add(1).min(most)`, `saturating_sub(1)` and `max` the compiler did not compute eight lanes side by side.
 
 // One more, at most `most`: a count that rises.
 fn up(n: u16, most: u16) -> u16

@@ -1,6 +1,8 @@
 // The pages of a run's records (document 02, #101): lines of 27 columns, 50 to a page, the last page filled.
 // Rules are those of crates/rules/specs/Pages.antt; the rule is named above the function. `Puts` says that a text is put into the output, `laid_out` what is left where
 // there is too little room.
+// A record is four bytes (document 01): a state and a refusal are numbers in them, and every byte has its columns. A place goes beside the output as in
+// crates/digits, and texts are laid out by hand, since there is no heap. A check takes the output's length alone: it puts nothing.
 #![tactic(auto)]
 
 ghost use Rattle.std.specs.Prelude.{◌≡◌, [], ◌∷◌, ◌++◌, ◌*◌, ltb};

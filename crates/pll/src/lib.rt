@@ -1,4 +1,6 @@
 // The PLL (document 01, "PLL (step 3)" and the state of "Selection (step 4)"): its state, its lock and unlock runs, and the ticks in Holdover.
+// A state goes by the number that is stored, Op_Mode and sources by those of registers (C interface): each number means something. `Mode` names the states.
+// Each contract is an equation with a rule, through `mode_of` and `loop_of` of specs/Bridge.
 #![tactic(auto)]
 
 ghost use Rattle.std.specs.Prelude.{◌≡◌, ◌+◌, ◌<◌, min};
@@ -77,6 +79,7 @@ fn longer(run: u32, limit: u32) -> u32
 }
 
 // ---- the state
+// A test for each of three states, and none that is given a `Mode`: a call says the state by its name, with no conversion beside it.
 
 // The state is Free Run.
 // Not: Holdover counts too; never Free Run.
@@ -171,6 +174,7 @@ pub fn alarm_due(p: Loop) -> bool
 }
 
 // ---- step 4
+// What step 4 tells goes as five parameters: a struct of them would be made at one place, in `tick`, and taken apart at one.
 
 // With nothing selected: "Holdover if Ready, otherwise Free Run".
 #[tactic(auto, unfolding(rules::specs::Selection::unselected_mode))]

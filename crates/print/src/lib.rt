@@ -1,5 +1,6 @@
 // A sheet run on the standard fresh unit and printed in one call (document 02, #101): its check, its records and their pages; and what is exported.
 // Each contract is an equation with a rule of crates/rules/specs/Pages.antt; the rule is named above the function.
+// The check takes the lengths of the outputs, and not the outputs, as that of a sheet does: it puts nothing.
 #![tactic(auto)]
 
 ghost use Rattle.std.specs.Prelude.{◌≡◌};

@@ -1,4 +1,5 @@
 // The rack program (document 01, "Run sheet and rack program"): reads a run sheet from standard input and prints its records, or its refusal, in one write.
+// Its arrays are of fixed size, with a length beside each: there is no heap.
 #![tactic(auto)]
 
 ghost use Rattle.std.specs.Prelude.{◌≤◌, ◌<◌, length, take, IfOk};
@@ -31,6 +32,7 @@ fn read_sheet<R: Read>(reader: &mut R, buffer: &mut [u8]) -> Result<usize, usize
     ensures whole { IfOk result (λ n. n < length buffer.new → IsAtEnd (R.remaining reader.new)) }
 {
     let mut n = 0;
+    // a `while`, since each read says how many bytes came
     while n < buffer.len() {
         match reader.read(&mut buffer[n..]) {
             Ok(0) => return Ok(n),

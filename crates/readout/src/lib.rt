@@ -1,6 +1,7 @@
 // What a read of a register shows (document 01, "Registers"): hours, state and status, the value, masks and counts, and the settings.
 // Each contract is an equation with a rule of crates/rules/specs/Reading.antt; the rule is named above the function.
 // A mode is the stored number of crate pll, which C hands over.
+// An address is a byte, which C hands over too, and a source its number. Where there is nothing to show, the rules have the byte 0.
 #![tactic(auto)]
 
 ghost use Rattle.std.specs.Prelude.{◌≡◌, ◌<◌, min};
@@ -47,6 +48,7 @@ pub fn state_byte(mode: u32, selected: u32) -> u8
 pub fn status_byte(mode: u32, ready: bool, held: bool) -> u8
     ensures { result ≡ reading.status_byte (mode_of mode) ready held }
 {
+    // `either`, since an `if` that is added to another stands in brackets
     either(pll::is_holdover(mode) || pll::is_free_run(mode), 1u8, 0)
         + either(pll::is_locked(mode), 0u8, 2)
         + either(ready, 4u8, 0)

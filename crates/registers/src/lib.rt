@@ -1,6 +1,8 @@
 // The registers (document 01, "Registers"): their table, and what the settings say.
 // A unit keeps one byte for each register, in address order: 0x1c to 0x27, then 0x40 to 0x4e. The rules' settings are `settings_from` of these bytes.
 // The bytes of 0x26 and of the registers that are read only stay 0: what these show is kept elsewhere.
+// A register goes by its address, any byte of C's (C interface), or by its slot, its place in those bytes. Outside the map that is 27, and no `Option`: there
+// lies a byte too, so any setting is read by one index and no test. The bytes are an array, which has no methods: they go beside the address asked for.
 #![tactic(auto)]
 
 ghost use Rattle.std.specs.Prelude.{◌≡◌, ◌+◌, get_or};
@@ -34,6 +36,8 @@ pub struct Writable {
     pub fresh: u8,
     pub largest: u8,
 }
+
+// The rows, each by its register's name, and the table, a line for each register: as document 01 has them, those that are alike too.
 
 // 0x1c to 0x23: revertive and priority of an input
 const INPUT: Option<Writable> = Some(Writable {

@@ -20,6 +20,8 @@ use selection::Handed;
 use state::{Core, Unit};
 
 // ---- the run
+// A part of the sheet or of the output may be longer than what counts of it, which n says, as in the rules `settings_of n` and `events_of n`; by one
+// index both an event and its record are found. Core, inputs, registers and history lie apart while they run: see crates/unit.
 
 // The rule `record_of`, at the front of a part of the output.
 fn put_record(out: &mut [u8], refusal: u8, k: Core, m: &Monitors)
@@ -34,6 +36,7 @@ fn put_record(out: &mut [u8], refusal: u8, k: Core, m: &Monitors)
     );
     let state = readout::state_byte(mode, k.choice.selected);
     let qualified = m.qualified_mask();
+    // The refusal is its number, as the record has it. Four stores of four names are as plain as an array of them that is copied.
     out[0] = refusal;
     out[1] = state;
     out[2] = qualified;

@@ -1,5 +1,6 @@
 // Selection (document 01, step 4, and the busy hours of document 02, #107): the wait, and the choice of a tick. The registers, the inputs' rows and the windows
 // are lent for reading, and so is what follows from the registers and is made after a write. The settings are `settings_from` of the registers.
+// Each contract is an equation with a rule, through `choice_of`, `inputs_of`, `windows_of` and `settings_from`.
 #![tactic(auto)]
 
 ghost use Rattle.std.specs.Prelude.{◌≡◌, ◌≤◌, eqb, if◌then◌else◌};
@@ -22,6 +23,7 @@ use week::{Windows, is_busy};
 const WAIT_LIMIT: u32 = 119_534;
 
 // What is selected, and the ticks waited for `awaited`, the best that they count for. Three numbers of one width: see `Loop` of crates/pll.
+// A source is its number, 0 for none and 9 for Free Run: the host lends these (C interface), and each number that lies there is valid.
 #[repr(C)]
 #[derive(Clone, Copy)]
 pub struct Choice {
@@ -31,6 +33,7 @@ pub struct Choice {
 }
 
 // What follows from the registers alone: the candidates' keys, and a floor of the delay. It is made after a write and handed to the ticks.
+// That it follows is said by each clause that needs it (`Follows`), and by no type: the registers lie elsewhere, and change.
 #[derive(Clone, Copy)]
 pub struct Handed {
     pub keys: Keys,
@@ -49,6 +52,7 @@ pub fn handed_by(regs: &Registers) -> Handed
 }
 
 // ---- the wait
+// `c` is the choice as stored and `b` the best of this tick, made anew: no struct has both. So it is with the place, of the core, and the windows, of a unit.
 
 // The rule `settled`: selected, with the wait at 0.
 // Not: none selected; a wait of 1.
@@ -71,6 +75,7 @@ fn waited(b: u32, c: Choice) -> u32
 }
 
 // The rule `wait_after`: the wait for `b` with this tick, in a window or not. In one a wait over n for the same best stays.
+// By tests and no `min`: a stay lies between the limit and one more.
 fn wait_after(blocked: bool, n: u32, b: u32, c: Choice) -> u32
     ensures { result ≡ wait_after blocked n b (choice_of c) }
 {

@@ -43,6 +43,7 @@ fn read_all(part: &[u8]) -> Result<(), Refusal>
 // ---- the counts
 
 // How many settings and events a sheet has.
+// Counts and places beside the sheet, as document 01 lays it out: nothing is copied out of it, since there is no heap.
 #[derive(Clone, Copy)]
 pub struct Counts {
     pub settings: usize,
@@ -50,6 +51,7 @@ pub struct Counts {
 }
 
 // The rule `word16`, as a section's count. A byte that the sheet does not have counts as 0.
+// By its place, and no slice: a short sheet has none there.
 fn count_at(s: &[u8], at: usize) -> usize
     requires { at < 131_074 }
     ensures { (result ≡ word16 s.now at) × (result < 65_536) }
@@ -72,6 +74,7 @@ pub fn counts_of(sheet: &[u8]) -> Counts
 }
 
 // ---- the check
+// It takes the length of the output, and not the output, as `sheet_check` of C does (C interface): it puts nothing there.
 
 // The rule `check`: the counts of a sheet that will run into an output of room bytes, or why it will not.
 // Not: the room looked at before the events.

@@ -1,5 +1,7 @@
 // The text that the rack program prints for a sheet (document 01, "Run sheet and rack program").
 // Each text is put into the lent bytes, as much of it as there is room for, and the byte after it is returned; the bytes after it are unchanged.
+// A refusal is its number, as the text and a record have it; a record is four bytes (document 01). A place goes beside the output as in crates/digits, and
+// texts are put by hand, since there is no heap.
 // Each contract cites a rule of crates/rules/specs/Printout.antt; the rule is named above the function.
 #![tactic(auto)]
 

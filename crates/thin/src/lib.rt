@@ -6,6 +6,7 @@
 use state::Core;
 
 // A number, and the core that is stored where the number is 0.
+// No `Result`: of this form are the functions that the laws of proofs/Stores are about, and no function of a crate today.
 #[derive(Clone, Copy)]
 pub struct Stepped {
     pub refusal: u8,

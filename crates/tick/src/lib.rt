@@ -1,5 +1,7 @@
 // A tick (document 01): its five steps in order, each by the function of its rule. What a tick changes in arrays lies with the caller and is changed there; the
 // numbers go by value.
+// A selected source is its number (crates/arith). Mask, lock flag and sample go apart, since no step takes two of them; and so do the parts of a unit: see
+// crates/unit.
 #![tactic(auto)]
 
 ghost use Rattle.std.specs.Prelude.{◌≡◌, ◌&&◌, if◌then◌else◌};

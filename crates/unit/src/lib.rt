@@ -1,5 +1,6 @@
 // The four events of a run sheet (document 01): what each gives, a refusal or the state after it.
 // What an event changes of a unit is lent to it and changed where it lies; the core goes by value. A refusal leaves every stored number as it was.
+// A tick and a write are lent the parts of a unit apart, and no `Unit`: so a run keeps the core out of memory, and the compiler sees a fresh unit's sets.
 // Each contract is an equation with a rule of crates/rules/specs through crates/state/specs/Stored.antt; the rule is named above the function.
 #![tactic(auto)]
 
@@ -31,6 +32,7 @@ use state::{Core, Unit};
 use week::Windows;
 
 // The four events.
+// Their fields are numbers, as a sheet and C have them (C interface): an input, an address or a sample that may not be is turned down where it is handled.
 #[derive(Clone, Copy)]
 pub enum Event {
     // irregular mask, lock flag, sample

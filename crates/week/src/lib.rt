@@ -15,6 +15,7 @@ use refusals::Refusal;
 const WEEK: u32 = 4_725_000;
 
 // Start and end of each window in turn. An unused pair is 0 and 0; a pair whose start is not before its end is no window.
+// Sixteen numbers, and beside them the count of a call, as C hands them over (C interface): each is valid, and there is no heap. `pairs` has them by twos.
 pub type Windows = [u32; 16];
 
 // "with no windows"

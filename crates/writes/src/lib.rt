@@ -1,4 +1,6 @@
 // Writes of registers (document 01, "Registers" and "Turned down"): what turns a write down, and what it stores.
+// An address and a value are bytes, as C hands them over (C interface), and a register is told by its address, as in document 01. The settings are
+// `settings_from` of the registers. Ready and held are told by the caller: this crate does not know the history.
 #![tactic(auto)]
 
 ghost use Rattle.std.specs.Prelude.{◌≡◌, ◌&&◌, ◌+◌, leb, eqb, if◌then◌else◌};
