@@ -100,19 +100,15 @@ pub fn best_of(m: &Monitors, keys: &Keys) -> u32
 
 // The rule `candidate`: an available reference, or Free Run if enabled.
 // Not: a masked reference is one; Free Run by bit 3.
+#[tactic(auto, unfolding(rules::specs::Selection::candidate, rules::specs::Selection::available))]
 pub fn is_candidate(m: &Monitors, regs: &Registers, c: u32) -> bool
     ensures { result ≡ candidate (settings_from regs.now) (inputs_of m.now) c }
 {
-    if c == 9 {
-        return is_usable(regs, FREE_RUN_SLOT);
+    match c {
+        9 => is_usable(regs, FREE_RUN_SLOT),
+        1..=8 => is_usable(regs, c as usize - 1) && m.qualified_at(c),
+        _ => false,
     }
-    if !is_input(c) {
-        return false;
-    }
-    if !is_usable(regs, c as usize - 1) {
-        return false;
-    }
-    m.qualified_at(c)
 }
 
 // The test of each input: it is unmasked and qualified.

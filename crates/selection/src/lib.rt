@@ -81,8 +81,8 @@ fn wait_after(blocked: bool, n: u32, b: u32, c: Choice) -> u32
 {
     let so_far = waited(b, c);
     if so_far < WAIT_LIMIT {
-        let stays = blocked & (n < so_far);
-        if stays {
+        // `&` and no `&&`: one test
+        if blocked & (n < so_far) {
             return so_far;
         }
         return so_far + 1;
@@ -121,8 +121,7 @@ fn reverted(windows: &Windows, place: u32, floor: u32, minutes: u8, b: u32, c: C
     let n = delay_ticks(minutes);
     let blocked = is_busy(windows, place);
     let wait = wait_after(blocked, n, b, c);
-    let over = !blocked & switches(n, wait);
-    if over {
+    if !blocked & switches(n, wait) {
         return settled(b);
     }
     waiting(wait, b, c)
@@ -146,10 +145,8 @@ fn reselected(
     if c.selected == b {
         return settled(b);
     }
-    let stands = is_candidate(m, regs, c.selected);
-    if stands {
-        let reverts = is_revertive(regs, c.selected);
-        if reverts {
+    if is_candidate(m, regs, c.selected) {
+        if is_revertive(regs, c.selected) {
             return reverted(windows, place, floor, setting(regs, 0x43), b, c);
         }
         return settled(c.selected);
@@ -163,8 +160,7 @@ fn manual(m: &Monitors, regs: &Registers) -> Choice
     ensures { choice_of result ≡ selection.manual (settings_from regs.now) (inputs_of m.now) }
 {
     let s = u32::from(setting(regs, 0x41));
-    let good = m.qualified_at(s);
-    if good {
+    if m.qualified_at(s) {
         return settled(s);
     }
     settled(0)
@@ -183,8 +179,7 @@ pub fn chosen(
 ) -> Choice
     ensures { Follows (settings_from regs.now) h.now.keys h.now.floor → choice_of result ≡ selection.chosen (busy (windows_of windows.now) place) (settings_from regs.now) (inputs_of m.now) (choice_of c) }
 {
-    let auto = is_automatic(regs);
-    if auto {
+    if is_automatic(regs) {
         return reselected(m, regs, h.floor, windows, place, best_of(m, &h.keys), c);
     }
     manual(m, regs)

@@ -31,8 +31,7 @@ use week::Windows;
 fn looped(lock: bool, selected: u32, p: Loop) -> Loop
     ensures { loop_of result ≡ (if is_tracked selected then pll.looped lock (loop_of p) else loop_of p) }
 {
-    let tracked = is_input(selected);
-    if tracked {
+    if is_input(selected) {
         return pll::looped(lock, p);
     }
     p
@@ -43,8 +42,7 @@ fn alarmed(selected: u32, p: Loop, m: &mut Monitors)
     ensures inputs { inputs_of m.new ≡ (if is_tracked selected && alarm_due (loop_of p) then altered lock_alarmed selected (inputs_of m.old) else inputs_of m.old) }
     ensures rows { m.new ≡ with_lock_alarms m.old m.new.remainder m.new.soak }
 {
-    let due = is_input(selected) & pll::alarm_due(p);
-    if due {
+    if is_input(selected) && pll::alarm_due(p) {
         m.alarm(selected);
     }
 }

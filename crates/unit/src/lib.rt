@@ -68,8 +68,7 @@ fn on_tick(
 ) -> Result<Core, Refusal>
     ensures { (b : Buckets) → Suits n.now handed.now b regs.now → Gives (unit_of k m.old b h.old windows.now regs.now) (events.tick_with mask lock x) (number result) (unit_of (core_after k result) m.new b h.new windows.now regs.now) }
 {
-    let ok = in_range(x);
-    if ok {
+    if in_range(x) {
         return Ok(tick::tick(mask, lock, x, k, m, n, regs, handed, windows, h));
     }
     Err(Refusal::SampleOutOfRange)
@@ -86,8 +85,7 @@ fn in_steps(limit: u8) -> u16
 fn on_measurement(i: u8, offset: i16, m: &mut Monitors, regs: &Registers) -> Result<(), Refusal>
     ensures { (k : core.Core) (b : Buckets) (h : sums.History) (w : List ℕ) → Gives (unit_of k m.old b h w regs.now) (events.measurement i offset) (number result) (unit_of k m.new b h w regs.now) }
 {
-    let ok = is_input(u32::from(i));
-    if ok {
+    if is_input(u32::from(i)) {
         let reject = in_steps(registers::setting(regs, 0x44));
         let qualification = in_steps(registers::setting(regs, 0x45));
         m.measure(i, offset, reject, qualification);
@@ -100,8 +98,7 @@ fn on_measurement(i: u8, offset: i16, m: &mut Monitors, regs: &Registers) -> Res
 fn on_hit(k: Core, m: &mut Monitors) -> Result<Core, Refusal>
     ensures { (b : Buckets) (h : sums.History) (w regs : List ℕ) → Gives (unit_of k m.old b h w regs) events.hit (number result) (unit_of (core_after k result) m.new b h w regs) }
 {
-    let ok = is_input(k.choice.selected);
-    if ok {
+    if is_input(k.choice.selected) {
         m.unsoak(k.choice.selected);
         return Ok(Core {
             tally: history::open_emptied(k.tally),

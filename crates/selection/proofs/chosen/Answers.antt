@@ -8,11 +8,11 @@ use Rattle.inputs.specs.Bridge.{inputs_of}
 use Rattle.selection.specs.Bridge.{choice_of}
 use Rattle.selection.proofs.chosen.Goals as goal
 
-pub returns-then-auto : goal.returns-then-auto
+pub returns-then-is_automatic : goal.returns-then-is_automatic
 unfolding chosen
-returns-then-auto c f =
+returns-then-is_automatic c f =
     let a = c.args in
     let S = settings_from a.regs.now in
-    rw (← c.is_automatic-auto.ensures, c.if-auto.true)
+    rw (← c.is_automatic.ensures, c.if-is_automatic.true)
     (c.reselected.ensures f.delayed
     ∙ ap (λ b. reselected (busy (windows_of a.windows.now) a.place) S (inputs_of a.m.now) b (choice_of a.c)) (c.best_of.ensures S f.keyed))

@@ -22,24 +22,24 @@ returns-then-c-b c d =
     let stands = candidate (settings_from a.regs.now) (inputs_of a.m.now) a.c.selected in
     rw (eq-eqb _ _ c.if-c-b.true) (c.settled.ensures ∙ alike stands (ap settled c.if-c-b.true))
 
-pub returns-then-reverts : goal.returns-then-reverts
+pub returns-then-is_revertive : goal.returns-then-is_revertive
 unfolding reselected
-returns-then-reverts c d =
+returns-then-is_revertive c d =
     let a = c.args in
-    let reverts : revertive (settings_from a.regs.now) a.c.selected ≡ true = sym c.is_revertive-reverts.ensures ∙ c.if-reverts.true in
+    let reverts : revertive (settings_from a.regs.now) a.c.selected ≡ true = sym c.is_revertive.ensures ∙ c.if-is_revertive.true in
     let minutes = c.setting.ensures in
-    rw (← c.is_candidate-stands.ensures, c.if-stands.true, ne_eqb _ _ c.if-c-b.false, reverts)
+    rw (← c.is_candidate.ensures, c.if-is_candidate.true, ne_eqb _ _ c.if-c-b.false, reverts)
     (c.reverted.ensures (rw minutes d)
     ∙ ap (λ (k : ℕ). reverted (busy (windows_of a.windows.now) a.place) (delay_ticks k) a.b (choice_of a.c)) minutes)
 
-pub returns-then-stands : goal.returns-then-stands
+pub returns-then-is_candidate : goal.returns-then-is_candidate
 unfolding reselected
-returns-then-stands c d =
+returns-then-is_candidate c d =
     let a = c.args in
-    let stays : revertive (settings_from a.regs.now) a.c.selected ≡ false = sym c.is_revertive-reverts.ensures ∙ c.if-reverts.false in
-    rw (← c.is_candidate-stands.ensures, c.if-stands.true, ne_eqb _ _ c.if-c-b.false, stays)
-    c.settled-then-stands.ensures
+    let stays : revertive (settings_from a.regs.now) a.c.selected ≡ false = sym c.is_revertive.ensures ∙ c.if-is_revertive.false in
+    rw (← c.is_candidate.ensures, c.if-is_candidate.true, ne_eqb _ _ c.if-c-b.false, stays)
+    c.settled-then-is_candidate.ensures
 
 pub returns : goal.returns
 unfolding reselected
-returns c d = rw (← c.is_candidate-stands.ensures, c.if-stands.false) c.settled-2.ensures
+returns c d = rw (← c.is_candidate.ensures, c.if-is_candidate.false) c.settled-2.ensures

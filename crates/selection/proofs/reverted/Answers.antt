@@ -40,16 +40,16 @@ returns-then-not-switches c below =
     ∙ (λ i. record { selected = a.c.selected; wait = risen i; awaited = a.b })
     ∙ sym (not_over n a.b (choice_of a.c) (busy (windows_of a.windows.now) a.place) (nor_longer a.floor n _ below goes_on))
 
-pub returns-then-over : goal.returns-then-over
+pub returns-then-blocked-switches : goal.returns-then-blocked-switches
 unfolding reverted
-returns-then-over c below =
+returns-then-blocked-switches c below =
     let a = c.args in
     let (waited, tested) = switch_is a.windows.now a.place a.minutes a.b (choice_of a.c) c.delay_ticks-n.ensures c.is_busy-blocked.ensures c.wait_after-wait.ensures c.switches-2.ensures in
-    rw (sym tested ∙ c.if-over.true) c.settled.ensures
+    rw (sym tested ∙ c.if-blocked-switches.true) c.settled.ensures
 
 pub returns : goal.returns
 unfolding reverted
 returns c below =
     let a = c.args in
     let (waited, tested) = switch_is a.windows.now a.place a.minutes a.b (choice_of a.c) c.delay_ticks-n.ensures c.is_busy-blocked.ensures c.wait_after-wait.ensures c.switches-2.ensures in
-    rw (sym tested ∙ c.if-over.false) (c.waiting-2.ensures ∙ (λ i. record { selected = a.c.selected; wait = waited i; awaited = a.b }))
+    rw (sym tested ∙ c.if-blocked-switches.false) (c.waiting-2.ensures ∙ (λ i. record { selected = a.c.selected; wait = waited i; awaited = a.b }))

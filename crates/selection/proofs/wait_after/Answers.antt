@@ -37,15 +37,15 @@ rule blocked n b w c e t =
     by_waited blocked n b c ∙ ap (risen blocked n) (sym e) ∙ (λ i. min wait_limit (if blocked && above n w i then w else w + 1))
     ∙ (λ i. min wait_limit (if t i then w else w + 1))
 
-pub returns-then-stays : goal.returns-then-stays
-returns-then-stays c =
+pub returns-then-blocked-n : goal.returns-then-blocked-n
+returns-then-blocked-n c =
     let stays : min wait_limit c.waited-so_far.result ≡ c.waited-so_far.result = omega (arith, c.if-so_far-lt-WAIT_LIMIT.true) in
-    sym (rule c.args.blocked c.args.n c.args.b _ (choice_of c.args.c) c.waited-so_far.ensures c.if-stays.true ∙ stays)
+    sym (rule c.args.blocked c.args.n c.args.b _ (choice_of c.args.c) c.waited-so_far.ensures c.if-blocked-n.true ∙ stays)
 
 pub returns-then-so_far-lt-WAIT_LIMIT : goal.returns-then-so_far-lt-WAIT_LIMIT
 returns-then-so_far-lt-WAIT_LIMIT c =
     let rises : min wait_limit (c.waited-so_far.result + 1) ≡ c.waited-so_far.result + 1 = omega (arith, c.if-so_far-lt-WAIT_LIMIT.true) in
-    sym (rule c.args.blocked c.args.n c.args.b _ (choice_of c.args.c) c.waited-so_far.ensures c.if-stays.false ∙ rises)
+    sym (rule c.args.blocked c.args.n c.args.b _ (choice_of c.args.c) c.waited-so_far.ensures c.if-blocked-n.false ∙ rises)
 
 pub returns : goal.returns
 returns c =

@@ -9,10 +9,10 @@ use Rattle.state.specs.Stored.{meaning, unit_of}
 use Rattle.unit.proofs.Given.{accepted, turned_down}
 use Rattle.unit.proofs.on_hit.Goals as goal
 
-pub returns-then-ok : goal.returns-then-ok
+pub returns-then-is_input : goal.returns-then-is_input
 unfolding refusal effect after_hit
-returns-then-ok c b h w regs =
-    accepted _ _ hit (rw (← c.is_input-ok.ensures.tracked, c.if-ok.true) refl) refl
+returns-then-is_input c b h w regs =
+    accepted _ _ hit (rw (← c.is_input.ensures.tracked, c.if-is_input.true) refl) refl
     (λ i.
     with_inputs (c.unsoak.ensures.inputs i)
     (with_loop ((c.loop_after_hit.ensures ∙ ap unselected_loop (c.is_ready.ensures h.sums h.building h.backup)) i)
@@ -22,4 +22,4 @@ returns-then-ok c b h w regs =
 
 pub returns : goal.returns
 unfolding refusal
-returns c b h w regs = turned_down _ hit (rw (← c.is_input-ok.ensures.tracked, c.if-ok.false) refl) (λ z. omega arith)
+returns c b h w regs = turned_down _ hit (rw (← c.is_input.ensures.tracked, c.if-is_input.false) refl) (λ z. omega arith)

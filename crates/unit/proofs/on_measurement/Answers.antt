@@ -12,16 +12,16 @@ use Rattle.state.specs.Stored.{meaning, unit_of}
 use Rattle.unit.proofs.Given.{accepted, turned_down}
 use Rattle.unit.proofs.on_measurement.Goals as goal
 
-pub returns-then-ok : goal.returns-then-ok
+pub returns-then-is_input : goal.returns-then-is_input
 unfolding refusal effect after_measurement
-returns-then-ok c k b h w =
+returns-then-is_input c k b h w =
     let a = c.args in
     let reject = c.in_steps-reject.ensures ∙ ap (λ (n : ℕ). half_ppm * n) c.setting.ensures in
-    let qualification = c.in_steps-qualification.ensures ∙ ap (λ (n : ℕ). half_ppm * n) c.setting-then-ok.ensures in
+    let qualification = c.in_steps-qualification.ensures ∙ ap (λ (n : ℕ). half_ppm * n) c.setting-then-is_input.ensures in
     let inputs = c.measure.ensures.inputs
     ∙ (λ j. altered (measured (reject j) (qualification j) (to_z-of_z c.ranges.offset j)) a.i (inputs_of a.m.now)) in
     accepted _ _ (measurement a.i a.offset)
-    (rw (← ap is_input c.from.ensures, ← c.is_input-ok.ensures.input, c.if-ok.true) refl) refl
+    (rw (← ap is_input c.from.ensures, ← c.is_input.ensures.input, c.if-is_input.true) refl) refl
     (λ i. with_inputs (inputs i) (meaning (unit_of k a.m.now b h w a.regs.now)))
 
 pub returns : goal.returns
@@ -29,4 +29,4 @@ unfolding refusal
 returns c k b h w =
     let a = c.args in
     turned_down _ (measurement a.i a.offset)
-    (rw (← ap is_input c.from.ensures, ← c.is_input-ok.ensures.input, c.if-ok.false) refl) (λ z. omega arith)
+    (rw (← ap is_input c.from.ensures, ← c.is_input.ensures.input, c.if-is_input.false) refl) (λ z. omega arith)

@@ -6,18 +6,18 @@ use Rattle.rules.specs.Run.{effect}
 use Rattle.unit.proofs.Given.{accepted, turned_down, same_event}
 use Rattle.unit.proofs.on_tick.Goals as goal
 
-pub returns-then-ok : goal.returns-then-ok
+pub returns-then-in_range : goal.returns-then-in_range
 unfolding refusal effect
-returns-then-ok c b suits =
+returns-then-in_range c b suits =
     let a = c.args in
     let told = to_z-of_z c.ranges.x in
     same_event (λ i. tick_with a.mask a.lock (told i))
     (accepted _ _ (tick_with a.mask a.lock (to_z w32 (of_z w32 a.x)))
-    (rw (← c.in_range-ok.ensures, c.if-ok.true) refl) refl (c.tick.ensures.rule b suits))
+    (rw (← c.in_range.ensures, c.if-in_range.true) refl) refl (c.tick.ensures.rule b suits))
 
 pub returns : goal.returns
 unfolding refusal
 returns c b suits =
     let a = c.args in
     turned_down _ (tick_with a.mask a.lock a.x)
-    (rw (← ap (λ (x : ℤ). leb (nat_abs x) sample_limit) (to_z-of_z c.ranges.x), ← c.in_range-ok.ensures, c.if-ok.false) refl) (λ z. omega arith)
+    (rw (← ap (λ (x : ℤ). leb (nat_abs x) sample_limit) (to_z-of_z c.ranges.x), ← c.in_range.ensures, c.if-in_range.false) refl) (λ z. omega arith)
