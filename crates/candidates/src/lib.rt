@@ -111,7 +111,7 @@ pub fn is_candidate(m: &Monitors, regs: &Registers, c: u32) -> bool
     }
 }
 
-// The test of each input: it is unmasked and qualified.
+// The test of each input: it is unmasked and qualified. `&` and no `&&`: no test of one input leaves the eight.
 fn tests(soak: Row, regs: &Registers) -> [bool; 8]
     ensures { result ≡ eight (λ k. usable (settings_from regs.now) (k + 1) && eqb (get_or soak k 0) full_soak) }
 {

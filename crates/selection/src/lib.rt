@@ -121,6 +121,7 @@ fn reverted(windows: &Windows, place: u32, floor: u32, minutes: u8, b: u32, c: C
     let n = delay_ticks(minutes);
     let blocked = is_busy(windows, place);
     let wait = wait_after(blocked, n, b, c);
+    // `&` and no `&&`: one test
     if !blocked & switches(n, wait) {
         return settled(b);
     }
