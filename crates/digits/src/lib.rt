@@ -5,7 +5,7 @@
 // Rules are those of crates/rules/specs/Printout.antt and Pages.antt; a function that has one names it.
 #![tactic(auto)]
 
-ghost use Rattle.std.specs.Prelude.{◌≡◌, [], ◌∷◌, ◌<◌};
+ghost use Rattle.std.specs.Prelude.{◌≡◌, [], ◌∷◌, ◌<◌, ◌≤◌, length};
 ghost use Rattle.rules.specs.Printout as rules;
 ghost use Rattle.rules.specs.Printout.{blank, decimal, hexadecimal};
 ghost use Rattle.rules.specs.Pages.{right_in};
@@ -49,7 +49,8 @@ fn digit(d: u8) -> u8
 // The rules `right_in` and `decimal`: a number in columns, the last digit first.
 // Not: a 0 for a blank in front; the last digits lost where there are too many.
 pub fn digits_of<const COLUMNS: usize>(n: usize) -> [u8; COLUMNS]
-    ensures { result ≡ right_in COLUMNS (decimal n) }
+    ensures columns { result ≡ right_in COLUMNS (decimal n) }
+    ensures whole { 20 ≤ COLUMNS → length (decimal n) ≤ COLUMNS }
 {
     let mut columns = [b' '; COLUMNS];
     let mut rest = n;

@@ -10,11 +10,11 @@ returns c =
     let second = then first (then c.put-next-2.ensures c.put_word-next-3.ensures) in
     let third = then second (then c.put-next-3.ensures c.put_word-next-4.ensures) in
     rw (
-      ← c.digits_of.ensures,
+      ← c.digits_of.ensures.columns,
       ← c.name_of.ensures,
       ← c.from.ensures,
-      ← c.digits_of-2.ensures,
+      ← c.digits_of-2.ensures.columns,
       ← c.from-2.ensures,
-      ← c.digits_of-3.ensures,
+      ← c.digits_of-3.ensures.columns,
     )
     (then (then third c.put_hexadecimal-next.ensures) c.put.ensures)
