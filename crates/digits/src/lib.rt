@@ -5,10 +5,10 @@
 // Rules are those of crates/rules/specs/Printout.antt and Pages.antt; a function that has one names it.
 #![tactic(auto)]
 
-ghost use Rattle.std.specs.Prelude.{◌≡◌, [], ◌∷◌, ◌<◌, ◌≤◌, length};
+ghost use Rattle.std.specs.Prelude.{◌≡◌, [], ◌∷◌, ◌-◌, ◌<◌, ◌≤◌, length};
 ghost use Rattle.rules.specs.Printout as rules;
 ghost use Rattle.rules.specs.Printout.{blank, decimal, hexadecimal};
-ghost use Rattle.rules.specs.Pages.{right_in};
+ghost use Rattle.rules.specs.Pages.{blanks, right_in};
 ghost use Rattle.digits.specs.Puts.{Puts};
 
 // One byte.
@@ -46,36 +46,43 @@ fn digit(d: u8) -> u8
     if d < 10 { b'0' + d } else { b'a' - 10 + d }
 }
 
-// The rules `right_in` and `decimal`: a number in columns, the last digit first.
+// A number's digits, the last one first, at the end of columns that are blank; says where the first stands. The one way to write a number in digits.
+fn written(n: usize, columns: &mut [u8]) -> usize
+    requires { columns.old ≡ blanks (length columns.old) }
+    ensures columns { columns.new ≡ right_in (length columns.old) (decimal n) }
+    ensures start { result ≡ length columns.old - length (decimal n) }
+{
+    let mut rest = n;
+    for i in (0..columns.len()).rev() {
+        columns[i] = digit((rest % 10) as u8);
+        rest /= 10;
+        if rest == 0 {
+            return i;
+        }
+    }
+    0
+}
+
+// The rules `right_in` and `decimal`: a number in columns.
 // Not: a 0 for a blank in front; the last digits lost where there are too many.
+#[tactic(auto, using(crate::proofs::Columns::twenty))]
 pub fn digits_of<const COLUMNS: usize>(n: usize) -> [u8; COLUMNS]
     ensures columns { result ≡ right_in COLUMNS (decimal n) }
     ensures whole { 20 ≤ COLUMNS → length (decimal n) ≤ COLUMNS }
 {
     let mut columns = [b' '; COLUMNS];
-    let mut rest = n;
-    for i in (0..COLUMNS).rev() {
-        columns[i] = digit((rest % 10) as u8);
-        rest /= 10;
-        if rest == 0 {
-            break;
-        }
-    }
+    written(n, &mut columns);
     columns
 }
 
-// The rule `decimal`.
+// The rule `decimal`: a number has at most 20 digits.
 // Not: the blanks in front put too; the last digit lost.
-#[tactic(auto, using(rules::proofs::Digits::one_digit))]
 pub fn put_decimal(n: usize, at: usize, out: &mut [u8]) -> usize
     ensures { Puts (decimal n) at out.old result out.new }
 {
-    if n < 10 {
-        put(digit(n as u8), at, out)
-    } else {
-        let last = put_decimal(n / 10, at, out);
-        put(digit((n % 10) as u8), last, out)
-    }
+    let mut columns = [b' '; 20];
+    let start = written(n, &mut columns);
+    put_word(&columns[start..], at, out)
 }
 
 // A blank and the rule `hexadecimal`.

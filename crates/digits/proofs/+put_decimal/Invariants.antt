@@ -1,5 +1,0 @@
--- Each call has fewer digits to put.
-use Rattle.digits.proofs.+put_decimal.Given as goal
-
-abbrev pub decreases-put_decimal : goal.decreases-put_decimal
-decreases-put_decimal l = l.n
