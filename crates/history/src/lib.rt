@@ -131,12 +131,18 @@ fn noted(policy: u8, selected: u32, mut t: Tally) -> Tally
     t
 }
 
-// `pushed`: the new sum first, each other a place on, and the oldest dropped.
+// `pushed`: the new sum first, each other a place on, and the oldest dropped. Place by place: `copy_within` calls memmove, which libhost.a does without. Out of
+// line, since it is wanted once in 128 ticks: unrolled into a run it costs each event.
+#[inline(never)]
 fn push(sums: &mut Sums, x: i64)
     ensures { sums.new ≡ pushed x sums.old }
 {
-    sums.copy_within(..63, 1);
-    sums[0] = x;
+    let mut next = x;
+    for k in 0..64 {
+        let old = sums[k];
+        sums[k] = next;
+        next = old;
+    }
 }
 
 // `completed`: the block joins the history that fills; a building history that then has 43 replaces the blocks in use.
