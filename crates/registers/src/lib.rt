@@ -171,10 +171,17 @@ fn fresh_at(k: usize) -> u8
 
 // The registers of the standard fresh unit: the column Fresh.
 // Not: a mask of 254; every byte 0.
+#[inline(never)]
 pub fn fresh_registers() -> Registers
     ensures { settings_from result ≡ settings_from fresh_table }
 {
-    std::array::from_fn(fresh_at)
+    // By turns over the registers alone: so the compiler makes the bytes, and no call computes them, as with `from_fn` over the slots it does. Out of line, since
+    // a run that knows these bytes takes longer for each event.
+    let mut regs = [0; SLOTS];
+    for k in 0..REGISTERS {
+        regs[k] = fresh_at(k);
+    }
+    regs
 }
 
 // ---- the settings
