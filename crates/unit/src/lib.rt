@@ -146,7 +146,10 @@ fn on_write(a: u8, v: u8, k: Core, regs: &mut Registers, h: &mut History) -> Res
         history::is_ready(k.tally),
         history::holds_backup(k.tally),
     );
-    checked?;
+    // By hand and no `?`, so that a wrong number can be written in its place.
+    if let Err(r) = checked {
+        return Err(r);
+    }
     Ok(Core {
         tally: write_accepted(a, v, k.tally, regs, h),
         ..k

@@ -1,5 +1,5 @@
 -- Accepted when the registers' test finds nothing, or turned down with what it finds.
-use Rattle.std.proofs.Common.{rules, refl, ◌≡◌, sym, ◌∙◌, Bool, Err, ℕ, List}
+use Rattle.std.proofs.Common.{refl, ◌≡◌, sym, ◌∙◌, Bool, ℕ}
 use Rattle.rules.specs.Events.{write}
 use Rattle.rules.specs.History.{ready, held}
 use Rattle.rules.specs.Refusals.{write_refusal, refusal}
@@ -19,25 +19,23 @@ found : (s : Stored) (a v : ℕ) {n : ℕ} {isReady is_held : Bool}
 unfolding refusal
 found s a v number full kept = number ∙ (λ i. write_refusal (settings_from s.regs) (full i) (kept i) a v)
 
-pub returns-in_err-checked-clause-gives : goal.returns-in_err-checked-clause-gives
-returns-in_err-checked-clause-gives c m b w =
+pub returns-in-Err-clause-gives : goal.returns-in-Err-clause-gives
+returns-in-Err-clause-gives c m b w =
     let a = c.args in
     let h = a.h.now in
-    let r = c.in_err-checked.field-0.0 in
-    let e : c.from_residual.result ≡ Err r = search rules in
-    rw e (turned_down _ (write a.a a.v) (found (unit_of a.k m b h w a.regs.now) a.a a.v c.in_err-checked.ensures (c.is_ready.ensures h.sums h.building h.backup) (c.holds_backup.ensures h.sums h.building h.backup)) (refused r))
+    turned_down _ (write a.a a.v) (found (unit_of a.k m b h w a.regs.now) a.a a.v c.in-Err.ensures (c.is_ready.ensures h.sums h.building h.backup) (c.holds_backup.ensures h.sums h.building h.backup)) (refused c.in-Err.r)
 
 pub returns-clause-gives : goal.returns-clause-gives
 unfolding effect
 returns-clause-gives c m b w =
     let a = c.args in
     let h = a.h.now in
-    let known = accepted_in_map (settings_from a.regs.now) c.is_ready.result c.holds_backup.result a.a a.v (sym c.in_ok-checked.ensures) in
-    accepted _ _ (write a.a a.v) (found (unit_of a.k m b h w a.regs.now) a.a a.v c.in_ok-checked.ensures (c.is_ready.ensures h.sums h.building h.backup) (c.holds_backup.ensures h.sums h.building h.backup)) refl
+    let known = accepted_in_map (settings_from a.regs.now) c.is_ready.result c.holds_backup.result a.a a.v (sym c.in_default.ensures) in
+    accepted _ _ (write a.a a.v) (found (unit_of a.k m b h w a.regs.now) a.a a.v c.in_default.ensures (c.is_ready.ensures h.sums h.building h.backup) (c.holds_backup.ensures h.sums h.building h.backup)) refl
     (c.write_accepted.ensures.rule a.k m b w known)
 
 pub returns-clause-regs_after : goal.returns-clause-regs_after
 returns-clause-regs_after c none =
     let a = c.args in
-    let known = accepted_in_map (settings_from a.regs.now) c.is_ready.result c.holds_backup.result a.a a.v (sym c.in_ok-checked.ensures) in
+    let known = accepted_in_map (settings_from a.regs.now) c.is_ready.result c.holds_backup.result a.a a.v (sym c.in_default.ensures) in
     c.write_accepted.ensures.regs_after known

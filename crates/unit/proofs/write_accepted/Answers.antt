@@ -1,5 +1,5 @@
 -- A command changes the history alone; any other write the settings alone.
-use Rattle.std.proofs.Common.{refl, ◌∙◌, if◌then◌else◌}
+use Rattle.std.proofs.Common.{◌∙◌, if◌then◌else◌}
 use borrow.Author.Tests.{eq-eqb, ne_eqb}
 use Rattle.rules.specs.Registers.{written, settings_from}
 use Rattle.rules.specs.Run.{after_write}
