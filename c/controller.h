@@ -275,20 +275,20 @@ uint8_t sheet_print(const uint8_t *sheet, size_t len, uint8_t *records, size_t r
 /* Memory, in bytes. A unit takes sizeof(struct unit). A library has text, its code and constants, and no data; no function allocates. The stack is the most
  * that c/memory.c sees a call of the function take, its return address included; it is measured and not proved, and it is without the binding of memcpy,
  * memmove and memset where that is left to their first call. The figures are of the toolchain in toolchain.txt; bin/cases holds them to what it measures. */
-#define LIBHOST_TEXT 8137
-#define LIBRUN_TEXT 8249
-#define LIBPRINT_TEXT 9413
+#define LIBHOST_TEXT 8649
+#define LIBRUN_TEXT 8802
+#define LIBPRINT_TEXT 9972
 #define UNIT_MAKE_STACK 56
 #define UNIT_LOAD_STACK 56
-#define UNIT_EVENT_STACK 152
+#define UNIT_EVENT_STACK 136
 #define UNIT_READ_STACK 16
 #define UNIT_SET_BUCKET_STACK 16
 #define UNIT_ASSIGN_BUCKET_STACK 48
 #define UNIT_SET_WEEK_STACK 8
 #define UNIT_SET_WINDOWS_STACK 8
 #define SHEET_CHECK_STACK 56
-#define SHEET_RUN_STACK 3992
-#define SHEET_PRINT_STACK 4024
+#define SHEET_RUN_STACK 3976
+#define SHEET_PRINT_STACK 4008
 
 #ifdef __cplusplus
 }

@@ -24,7 +24,7 @@ pub enum Mode {
 }
 
 // The state that a stored number stands for: each number past 5, which no event leaves, is Pre-locked 2.
-// Not: 6 is Free Run; 3 is Loss of lock.
+// Not: 3 is Loss of lock; 0 is Holdover.
 #[tactic(auto, unfolding(crate::specs::Bridge::mode_of))]
 impl From<u32> for Mode {
     fn from(stored: u32) -> Mode
@@ -42,7 +42,7 @@ impl From<u32> for Mode {
 }
 
 // The number of a state.
-// Not: 4 for Locked; 6 for Pre-locked 2.
+// Not: 6 for Pre-locked 2; 0 for Holdover.
 #[tactic(auto, unfolding(crate::specs::Bridge::mode_of, rules::specs::Pll::mode_number))]
 impl From<Mode> for u32 {
     fn from(mode: Mode) -> u32

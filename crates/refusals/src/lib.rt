@@ -70,7 +70,7 @@ impl From<Refusal> for u8 {
 }
 
 // The number that C and Rust are given: 0 for what was carried out, and else that of the refusal.
-// Not: 0 for every refusal; 1 for what was carried out.
+// Not: 1 for what was carried out; 12 for every refusal.
 pub fn number<T>(given: &Result<T, Refusal>) -> u8
     ensures { result ≡ number given.now }
 {
