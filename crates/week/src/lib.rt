@@ -111,9 +111,14 @@ fn fit(windows: &[[u32; 2]]) -> bool
 pub fn check_windows(count: u8, windows: &Windows) -> Result<(), Refusal>
     ensures { number result ≡ windows_refusal (first_windows count windows.now) }
 {
-    match pairs(windows).get(..usize::from(count)) {
-        Some(given) if fit(given) => Ok(()),
-        _ => Err(Refusal::NotOfAWeek),
+    if 8 < count {
+        return Err(Refusal::NotOfAWeek);
+    }
+    let given = &pairs(windows)[..usize::from(count)];
+    if fit(given) {
+        Ok(())
+    } else {
+        Err(Refusal::NotOfAWeek)
     }
 }
 
