@@ -55,10 +55,10 @@ fn written(n: usize, columns: &mut [u8]) -> usize
     let mut rest = n;
     for i in (0..columns.len()).rev() {
         columns[i] = digit((rest % 10) as u8);
-        rest /= 10;
-        if rest == 0 {
+        if rest < 10 {
             return i;
         }
+        rest /= 10;
     }
     0
 }

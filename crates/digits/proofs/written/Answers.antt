@@ -15,8 +15,8 @@ returns-clause-columns c = columns_full c.loop-i-test.false c.loop-i.invariant
 pub returns-clause-start : goal.returns-clause-start
 returns-clause-start c = none_before c.loop-i-test.false c.loop-i.invariant
 
-pub returns-then-rest-eq0-clause-columns : goal.returns-then-rest-eq0-clause-columns
-returns-then-rest-eq0-clause-columns c = rw c.digit.ensures (all_written (omega arith) c.loop-i.invariant (omega arith))
+pub returns-then-rest-lt10-clause-columns : goal.returns-then-rest-lt10-clause-columns
+returns-then-rest-lt10-clause-columns c = rw c.digit.ensures (all_written (omega arith) c.loop-i.invariant (omega arith))
 
-pub returns-then-rest-eq0-clause-start : goal.returns-then-rest-eq0-clause-start
-returns-then-rest-eq0-clause-start c = first_at (omega arith) c.loop-i.invariant (omega arith)
+pub returns-then-rest-lt10-clause-start : goal.returns-then-rest-lt10-clause-start
+returns-then-rest-lt10-clause-start c = first_at (omega arith) c.loop-i.invariant (omega arith)
