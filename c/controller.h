@@ -273,8 +273,8 @@ size_t sheet_run(const uint8_t *sheet, size_t len, uint8_t *output, size_t outpu
 uint8_t sheet_print(const uint8_t *sheet, size_t len, uint8_t *records, size_t records_len, uint8_t *pages, size_t pages_len);
 
 /* Memory, in bytes. A unit takes sizeof(struct unit). A library has text, its code and constants, and no data; no function allocates. The stack is the most
- * that c/memory.c sees a call of the function take, its return address included; it is measured and not proved, and it is without the binding of memcpy,
- * memmove and memset where that is left to their first call. The figures are of the toolchain in toolchain.txt; bin/cases holds them to what it measures. */
+ * that c/memory.c sees a call of the function take, its return address included; it is measured and not proved, and it is without the binding of memcpy
+ * and memset where that is left to their first call. The figures are of the toolchain in toolchain.txt; bin/cases holds them to what it measures. */
 #define LIBHOST_TEXT 8977
 #define LIBRUN_TEXT 8802
 #define LIBPRINT_TEXT 10121

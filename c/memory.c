@@ -1,6 +1,6 @@
 /* The memory that the libraries take, beside the figures of controller.h: the stack of each function, called on a stack that was painted, and text and
  * data of each library, as `size` writes them to standard input. A figure is at fault if it is too small, or much too large.
- * All calls are made once before the stack is painted, so that the binding of memcpy, memmove and memset at their first call does not count. */
+ * All calls are made once before the stack is painted, so that the binding of memcpy and memset at their first call does not count. */
 #include "controller.h"
 
 #include <stdio.h>
